@@ -1,0 +1,9 @@
+use crate::Text;
+
+/// The method that is asked for: the name of its class, its own name and its descriptor.
+#[derive(Debug, Drop)]
+pub struct Target {
+    pub class: Text,
+    pub method: Text,
+    pub desc: Text,
+}

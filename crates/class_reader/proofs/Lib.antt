@@ -1,0 +1,11 @@
+pub mod Names
+pub mod Types
+pub mod Parameters
+pub mod Describes
+pub mod Ints
+pub mod Loops
+pub mod Steps
+pub mod Codes
+pub mod MethodReading
+pub mod Distinct
+pub mod Classes

@@ -1,0 +1,122 @@
+ghost use Rattle.std.specs.Prelude.{◌≡◌, ◌<◌, ◌≤◌, None};
+
+use crate::sink::{Put, Sink};
+use std::io::Write;
+use std::marker::Model;
+
+/// A writer, as standard output is.
+#[derive(Drop)]
+pub struct OutSink<W> {
+    writer: W,
+    faults: u64,
+}
+
+impl<W> Model for OutSink<W> {
+    ghost use Rattle.std.specs.Prelude.{None};
+    ghost use Rattle.ports.specs.Sink.{SinkState};
+
+    ghost Value = { SinkState };
+
+    ghost view = { λ s. record { content = None; faults = s.faults } };
+}
+
+impl<W> OutSink<W> {
+    /// A sink whose pieces go to this writer. What was written isn't told.
+    pub fn new(writer: W) -> Self
+        ensures { result ≡ record { content = None; faults = 0 } }
+    {
+        OutSink { writer, faults: 0 }
+    }
+
+    /// How often the writer failed.
+    pub fn faults(&self) -> u64
+        ensures { result ≡ self.now.faults }
+    {
+        self.faults
+    }
+}
+
+/// Writes the whole piece and flushes, and answers whether that went well. A write of nothing doesn't.
+fn write_whole(writer: &mut impl Write, piece: &[u8]) -> bool {
+    let mut rest = piece;
+    for _ in 0..u64::MAX {
+        if rest.is_empty() {
+            return writer.flush().is_ok();
+        }
+        match writer.write(rest) {
+            Ok(0) | Err(_) => return false,
+            Ok(count) => rest = &rest[count..],
+        }
+    }
+    false
+}
+
+impl<W: Write> Sink for OutSink<W> {
+    ghost meaning = { λ s. s };
+
+    fn put(&mut self, piece: &[u8]) -> Result<(), Put> {
+        if write_whole(&mut self.writer, piece) {
+            return Ok(());
+        }
+        self.faults = self.faults.saturating_add(1);
+        Err(Put::Failed)
+    }
+}
+
+#[cfg(test)]
+mod tests {
+    use super::*;
+    use std::io;
+    use std::test::Fail;
+
+    /// Takes at most three bytes a write, and then none, or fails.
+    #[derive(Drop)]
+    struct Narrow {
+        bytes: Vec<u8>,
+        room: usize,
+        fails: bool,
+    }
+
+    impl Write for Narrow {
+        fn write(&mut self, piece: &[u8]) -> io::Result<usize> {
+            let taken = piece.len().min(self.room).min(3);
+            if taken == 0 && self.fails {
+                return Err(io::Error::from(io::ErrorKind::BrokenPipe));
+            }
+            self.bytes.extend_from_slice(&piece[..taken])?;
+            self.room -= taken;
+            Ok(taken)
+        }
+
+        fn flush(&mut self) -> io::Result<()> {
+            Ok(())
+        }
+    }
+
+    #[test]
+    fn pieces(rt: HostRuntime) {
+        for (room, fails, well) in [
+            (8, false, true),
+            (8, true, true),
+            (7, false, false),
+            (7, true, false),
+            (0, true, false),
+        ] {
+            let mut sink = OutSink::new(Narrow {
+                bytes: Vec::new(rt.alloc()),
+                room,
+                fails,
+            });
+            assert_eq!(rt; sink.put(b"bound 4\n").is_ok(), well);
+            assert_eq!(rt; sink.faults(), if well { 0 } else { 1 });
+            assert_eq!(rt; sink.writer.bytes.as_slice(), &b"bound 4\n"[..room]);
+        }
+    }
+
+    #[test]
+    fn standard_output(rt: HostRuntime) {
+        let mut sink = OutSink::new(rt.stdout());
+        assert!(rt; sink.put(b"bound 4\n").is_ok());
+        assert_eq!(rt; sink.faults(), 0);
+    }
+}

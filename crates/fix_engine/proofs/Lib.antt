@@ -1,0 +1,4 @@
+pub mod Agendas
+pub mod Tables
+pub mod Points
+pub mod Steps

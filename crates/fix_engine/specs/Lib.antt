@@ -1,0 +1,10 @@
+pub mod Order
+pub mod Problem
+pub mod Lawful
+pub mod Solution
+pub mod Agenda
+pub mod Readers
+pub mod Search
+pub mod Examples
+pub mod Chains
+pub mod ExampleLaws

@@ -1,0 +1,10 @@
+pub mod Ring
+pub mod Divisors
+pub mod Checked
+pub mod Abs
+pub mod Lowest
+pub mod Steps
+pub mod Exact
+pub mod Halves
+pub mod Order
+pub mod Field

@@ -1,0 +1,4 @@
+pub mod Fraction
+pub mod Rule
+pub mod Fits
+pub mod Laws

@@ -1,0 +1,5 @@
+pub mod Words
+pub mod Answer
+pub mod Report
+pub mod Headline
+pub mod Answers

@@ -146,3 +146,19 @@ plus-zero x = rw (suc_common x.den_less_one (whole (pos 0)).den_less_one) (is x.
   where
     is : (n : ℤ) (d : ℕ) → (n *ℤ pos 1 +ℤ pos 0 *ℤ pos d) *ℤ pos d ≡ n *ℤ (pos d *ℤ pos 1)
     is n d = rw (← is_dif n) (simp (ring, pos-dif) (dif-same _ _ _ _ (omega arith)))
+
+pub times_comm : (x y : Fraction) → IsSame (times x y) (times y x)
+times_comm x y = rw (suc_common x.den_less_one y.den_less_one, suc_common y.den_less_one x.den_less_one) (is x.num y.num (suc x.den_less_one) (suc y.den_less_one))
+  where
+    is : (xn yn : ℤ) (xd yd : ℕ) → (xn *ℤ yn) *ℤ (pos yd *ℤ pos xd) ≡ (yn *ℤ xn) *ℤ (pos xd *ℤ pos yd)
+    is xn yn xd yd = rw (← is_dif xn, ← is_dif yn) (simp (ring, pos-dif) (dif-same _ _ _ _ (omega arith)))
+
+pub plus_assoc : (x y z : Fraction) → IsSame (plus (plus x y) z) (plus x (plus y z))
+plus_assoc x y z = rw (suc_common (plus x y).den_less_one z.den_less_one, suc_common x.den_less_one y.den_less_one, suc_common x.den_less_one (plus y z).den_less_one, suc_common y.den_less_one z.den_less_one)
+    (is x.num y.num z.num (suc x.den_less_one) (suc y.den_less_one) (suc z.den_less_one))
+  where
+    is : (xn yn zn : ℤ) (xd yd zd : ℕ) → ((xn *ℤ pos yd +ℤ yn *ℤ pos xd) *ℤ pos zd +ℤ zn *ℤ (pos xd *ℤ pos yd)) *ℤ (pos xd *ℤ (pos yd *ℤ pos zd)) ≡ (xn *ℤ (pos yd *ℤ pos zd) +ℤ (yn *ℤ pos zd +ℤ zn *ℤ pos yd) *ℤ pos xd) *ℤ ((pos xd *ℤ pos yd) *ℤ pos zd)
+    is xn yn zn xd yd zd = rw (← is_dif xn, ← is_dif yn, ← is_dif zn) (simp (ring, pos-dif) (dif-same _ _ _ _ (omega arith)))
+
+pub zero-plus : (x : Fraction) → IsSame (plus (whole (pos 0)) x) x
+zero-plus x = same_trans (plus (whole (pos 0)) x) (plus x (whole (pos 0))) x (plus_comm (whole (pos 0)) x) (plus-zero x)

@@ -1,0 +1,7 @@
+pub mod Linear
+pub mod Points
+pub mod Proving
+pub mod Combining
+pub mod Laws
+pub mod Rows
+pub mod Gives

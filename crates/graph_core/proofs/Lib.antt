@@ -1,0 +1,12 @@
+pub mod Lists
+pub mod Rows
+pub mod Orders
+pub mod Trails
+pub mod Walks
+pub mod Turns
+pub mod Marks
+pub mod LoopLaws
+pub mod Reach
+pub mod Spreads
+pub mod Chains
+pub mod AvoidLaws

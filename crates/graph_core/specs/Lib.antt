@@ -1,0 +1,11 @@
+pub mod Graphs
+pub mod Paths
+pub mod Search
+pub mod Walk
+pub mod Loops
+pub mod Body
+pub mod Nests
+pub mod Components
+pub mod Distances
+pub mod Cycles
+pub mod Covers

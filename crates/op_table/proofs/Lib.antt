@@ -1,1 +1,6 @@
 pub mod Lengths
+pub mod Rising
+pub mod SwitchCases
+pub mod Agreeing
+pub mod CasesRise
+pub mod Inside

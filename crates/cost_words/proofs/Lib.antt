@@ -1,0 +1,6 @@
+pub mod Types
+pub mod Cuts
+pub mod Prefixes
+pub mod Names
+pub mod Numbers
+pub mod Loops

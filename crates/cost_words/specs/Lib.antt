@@ -1,0 +1,4 @@
+pub mod Reading
+pub mod Descriptor
+pub mod Target
+pub mod Grammar

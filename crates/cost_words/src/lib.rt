@@ -1,0 +1,22 @@
+//! The words of the command line: what they ask for, or the first that is wrong.
+#![tactic(auto)]
+
+mod command;
+mod commands;
+mod descriptor;
+mod fault;
+mod number;
+mod options;
+mod paths;
+mod rest;
+mod target;
+mod word;
+
+pub use command::{Command, Cost, PathWord};
+pub use commands::read;
+pub use descriptor::is_method_text;
+pub use fault::{WordFault, WordKind};
+pub use word::Word;
+
+#[cfg(test)]
+mod tests;

@@ -8,13 +8,12 @@ use Rattle.byteorder.specs.Numbers.{length-bytes_high_first}
 use Rattle.class_pool.specs.declared.constant.Constant.{Constant}
 use Rattle.class_pool.specs.declared.constant.Constant.TheVariants.{Utf8, Integer, Float, Long, Double, Class, String, Fieldref, Methodref, InterfaceMethodref, NameAndType, MethodHandle, MethodType, Dynamic, InvokeDynamic, Module, Package}
 use Rattle.class_pool.specs.declared.fault.PoolFault.{PoolFault}
-use Rattle.class_pool.specs.declared.fault.PoolFault.TheVariants.{Short, BadTag, BadUtf8}
+use Rattle.class_pool.specs.declared.fault.PoolFault.TheVariants.{Short, BadTag}
 use Rattle.class_pool.specs.Place.{Place, after, end_of, number_at, IsBytes}
 use Rattle.class_pool.specs.Pieces.{StartsWith}
 use Rattle.class_pool.specs.Pool.{HasNumber, HasNumbers, HasText, IsEntry, is_wide}
 use Rattle.class_pool.specs.PoolReading.{◌>>=◌, number_or_short, num_at, bytes_at, Body, Text, One, Two, bodies, body_in, body_at, is_wide_tag, entry_at}
-use Rattle.class_pool.proofs.Numbers.{IsBytes-drop, number_takes, number_again}
-use Rattle.class_pool.proofs.Pieces.{joined, cut_off, IsNumber, number_starts, number_ends, starts-rest}
+use Rattle.class_pool.proofs.Pieces.{joined, IsNumber, number_starts, number_ends, starts-rest}
 
 -- ---- results and pairs
 

@@ -1,9 +1,9 @@
 -- In a pool that is linked an index of a kind has what the kind names.
-use Rattle.std.proofs.Common.{◌≡◌, ◌↔◌, ℕ, zero, suc, Bool, true, List, [], ◌∷◌, Option, Some, None, is_some, refl, sym, ap, subst, ◌∙◌}
+use Rattle.std.proofs.Common.{◌≡◌, ◌↔◌, ℕ, zero, suc, List, [], ◌∷◌, Option, Some, None, is_some, refl, sym, ap, subst, ◌∙◌}
 use Rattle.std.specs.Prelude.{IsSome, option_and_then, option_map, slice_get}
 use Rattle.std.specs.List.{AllByRecursion}
 use Rattle.class_pool.specs.declared.constant.Constant.{Constant}
-use Rattle.class_pool.specs.declared.constant.Constant.TheVariants.{Utf8, Integer, Float, Long, Double, Class, String, Fieldref, Methodref, InterfaceMethodref, NameAndType, MethodHandle, MethodType, Dynamic, InvokeDynamic, Module, Package}
+use Rattle.class_pool.specs.declared.constant.Constant.TheVariants.{Class, Fieldref, Methodref, InterfaceMethodref, NameAndType}
 use Rattle.class_pool.specs.Pool.{constant_at, utf8_at, class_of, class_name_at, named_of, texts_at, name_and_type_at, member_of, member_texts, member_at, IsLinked, IsLinkedSlot}
 
 abbrev pub Slots : Type 0

@@ -1,20 +1,17 @@
 -- The links of a pool, and the first fault.
-use Rattle.std.proofs.Common.{◌≡◌, ◌⊎◌, ℕ, zero, suc, ◌+◌, ◌-◌, ◌<◌, ◌≤◌, Bool, true, false, cond, eqb, ltb, ◌&&◌, List, [], ◌∷◌, ◌++◌, length, take, Option, Some, None, Result, Ok, Err, is_some, refl, sym, ap, subst, ◌∙◌, append_assoc, arith, inl, inr}
-use Rattle.std.specs.Prelude.{IfOk}
+use Rattle.std.proofs.Common.{◌≡◌, ◌⊎◌, ℕ, zero, suc, ◌+◌, ◌-◌, ◌<◌, ◌≤◌, Bool, true, false, cond, eqb, ltb, ◌&&◌, List, [], ◌∷◌, ◌++◌, length, take, Option, Some, None, Result, Ok, Err, is_some, refl, sym, ap, subst, ◌∙◌, arith, inl, inr}
 use Rattle.std.specs.List.{AllByRecursion}
-use Rattle.std.proofs.lemmas.List.{append-nil, length-append}
-use Rattle.std.proofs.lemmas.Bool.{ltb-true}
 use Rattle.class_pool.specs.declared.constant.Constant.{Constant}
 use Rattle.class_pool.specs.declared.constant.Constant.TheVariants.{Utf8, Integer, Float, Long, Double, Class, String, Fieldref, Methodref, InterfaceMethodref, NameAndType, MethodHandle, MethodType, Dynamic, InvokeDynamic, Module, Package}
 use Rattle.class_pool.specs.declared.fault.PoolFault.{PoolFault}
-use Rattle.class_pool.specs.declared.fault.PoolFault.TheVariants.{Short, BadTag, BadIndex, BadUtf8, Memory}
+use Rattle.class_pool.specs.declared.fault.PoolFault.TheVariants.{Short, BadTag, BadUtf8}
 use Rattle.class_pool.specs.Place.{Place, after, end_of, number_at, IsBytes}
 use Rattle.class_pool.specs.Pieces.{StartsWith}
-use Rattle.class_pool.specs.Pool.{IsEntry, is_text, is_wide, size_of, constant_at, utf8_at, class_of, named_of, IsLinked, IsLinkedSlot, IsTable, IsPool}
-use Rattle.class_pool.specs.PoolReading.{◌>>=◌, Gives, number_or_short, num_at, bytes_at, Body, Text, One, Two, bodies, body_in, body_at, is_wide_tag, entry_at, text_checked, constant_from, slot_at, slots_at, is_wide_slot, table_at, unless, first_of, wrong_index, linked_or, slot_link, slot_size, links_from, pool_at}
-use Rattle.class_pool.specs.FirstFault.{place_of, IsAmong, IsFirst, fault_of, text_faults, faults_with, slots_faults, faults_behind, table_faults, link_faults, IsFirstLink, IsFirstFault, HasPool, HasFault, IsDecided}
+use Rattle.class_pool.specs.Pool.{IsEntry, is_text, is_wide, size_of, constant_at, utf8_at, class_of, named_of, IsLinked, IsLinkedSlot, IsPool}
+use Rattle.class_pool.specs.PoolReading.{◌>>=◌, number_or_short, num_at, bytes_at, Body, Text, One, Two, bodies, body_in, body_at, is_wide_tag, entry_at, text_checked, constant_from, slots_at, is_wide_slot, table_at, unless, first_of, wrong_index, linked_or, slot_link, slot_size, links_from, pool_at}
+use Rattle.class_pool.specs.FirstFault.{place_of, IsAmong, IsFirst, fault_of, text_faults, faults_with, slots_faults, faults_behind, table_faults, link_faults, IsFirstFault, HasPool, HasFault, IsDecided}
 use Rattle.class_pool.proofs.Pieces.{IsNumber, starts-rest}
-use Rattle.class_pool.proofs.EntryReading.{done, taken, ok_is, bind_ok, bound, same_pair, guarded, num_takes, Entry, entry_takes}
+use Rattle.class_pool.proofs.EntryReading.{done, taken, bind_ok, bound, same_pair, num_takes, entry_takes}
 use Rattle.class_pool.proofs.Tables.{table_takes, table_again, entry_sized}
 
 -- ---- the links

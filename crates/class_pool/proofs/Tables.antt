@@ -1,6 +1,5 @@
 -- The indices of a pool: what is read is entries laid out to them, and each such layout is read.
-use Rattle.std.proofs.Common.{◌≡◌, ℕ, zero, suc, ◌+◌, ◌-◌, ◌^◌, ◌<◌, ◌≤◌, Bool, true, false, cond, List, [], ◌∷◌, ◌++◌, length, sum_by, Option, Some, None, Result, Ok, Err, refl, sym, ap, subst, ◌∙◌, append_assoc, arith, inl, inr}
-use Rattle.std.proofs.lemmas.Bool.{cases_Bool}
+use Rattle.std.proofs.Common.{◌≡◌, ℕ, zero, suc, ◌+◌, ◌-◌, ◌≤◌, Bool, true, false, cond, List, [], ◌∷◌, ◌++◌, length, sum_by, Option, Some, None, Ok, Err, refl, sym, ap, subst, ◌∙◌, arith}
 use Rattle.std.proofs.lemmas.List.{length-append}
 use Rattle.std.proofs.lemmas.List.Sums.{sum_by-cons}
 use Rattle.byteorder.specs.Endian.{big_bytes}
@@ -12,7 +11,7 @@ use Rattle.class_pool.specs.declared.fault.PoolFault.TheVariants.{BadUtf8}
 use Rattle.class_pool.specs.Place.{Place, IsBytes}
 use Rattle.class_pool.specs.Pieces.{Each, StartsWith}
 use Rattle.class_pool.specs.Pool.{HasNumber, HasNumbers, IsEntry, IsConstant, is_text, size_of, is_wide, laid_out, IsTable}
-use Rattle.class_pool.specs.PoolReading.{◌>>=◌, num_at, entry_at, text_checked, constant_from, slot_at, slots_at, is_wide_slot, slot_size, table_at}
+use Rattle.class_pool.specs.PoolReading.{num_at, entry_at, text_checked, constant_from, slot_at, slots_at, is_wide_slot, slot_size, table_at}
 use Rattle.class_pool.proofs.Pieces.{joined, cut_off, IsNumber, starts-rest}
 use Rattle.class_pool.proofs.EntryReading.{done, taken, bind_ok, bound, same_pair, num_takes, number_there, Entry, entry_takes, entry_again}
 

@@ -1,5 +1,5 @@
 -- Reading from left to right: what stands at a place, and the place after it. None is a fault.
-use Rattle.std.specs.Prelude.{◌≡◌, ℕ, zero, suc, List, [], ◌∷◌, length, take, Option, Some, None, nat_lt, if◌then◌else◌}
+use Rattle.std.specs.Prelude.{ℕ, zero, suc, List, [], ◌∷◌, length, take, Option, Some, None, nat_lt, if◌then◌else◌}
 use Rattle.class_pool.specs.Place.{Place, after, number_at}
 
 infixl 10 ◌>>=◌

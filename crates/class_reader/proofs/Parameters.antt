@@ -5,7 +5,7 @@ use Rattle.std.specs.List.{flat_map, AllByRecursion}
 use Rattle.std.proofs.lemmas.List.{append-nil, nil_from_length, length-append, take_rest}
 use Rattle.std.proofs.lemmas.List.Sums.{sum_by-cons}
 use Rattle.std.proofs.lemmas.Bool.{eqb-true}
-use Rattle.class_reader.specs.Descriptor.{FieldType, Base, Object, Array, is_base_letter, type_text, words_of, IsFieldType, result_text}
+use Rattle.class_reader.specs.Descriptor.{FieldType, Base, Object, Array, is_base_letter, type_text, words_of, IsFieldType, IsFieldDescriptor, result_text}
 use Rattle.class_reader.specs.DescriptorReading.{type_from, is_last, IsRest, IsResult}
 use Rattle.class_reader.proofs.Types.{found, found_is, type_takes, field_found, type_text_is_longer}
 
@@ -45,6 +45,15 @@ type_is_last : (type : FieldType) → IsFieldType type → is_last (type_from 0 
 type_is_last type is =
     let read : type_from 0 (type_text type) ≡ found (words_of type) [] = ap (type_from 0) (sym (append-nil (type_text type))) ∙ field_found type [] is in
     ap is_last read
+
+pub type_is_field : (text : List ℕ) → is_last (type_from 0 text) ≡ true → IsFieldDescriptor text
+type_is_field text h =
+    let last = last_is (type_from 0 text) h in
+    let read = field_takes text last.0 [] last.1 in
+    record { type = read.type; parts = read.parts ∙ append-nil (type_text read.type); fits = read.is }
+
+pub field_is_type : (text : List ℕ) → IsFieldDescriptor text → is_last (type_from 0 text) ≡ true
+field_is_type text d = ap (λ (t : List ℕ). is_last (type_from 0 t)) d.parts ∙ type_is_last d.type d.fits
 
 either_is : (text : List ℕ) (returned : Option FieldType) → text ≡ result_text returned → IfSome returned IsFieldType → (text ≡ 86 ∷ []) ⊎ (is_last (type_from 0 text) ≡ true)
 either_is text None e is = inl e

@@ -1,89 +1,145 @@
--- The class file format (JVMS 4), in the form that is read: a pool of Utf8 and Class entries, no
--- interfaces, no fields, methods with a Code attribute and no other, and no attributes of the class.
-use Rattle.std.specs.Prelude.{◌≡◌, ◌≢◌, ◌||◌, not, ℕ, ◌<◌, ◌≤◌, ◌^◌, List, [], ◌∷◌, ◌++◌, length, Bool, true, false, Option, Some, IsTrue, codes}
+-- The class file format (JVMS 4).
+use Rattle.std.specs.Prelude.{◌≡◌, ◌≢◌, ◌||◌, not, ℕ, ◌<◌, ◌≤◌, ◌^◌, List, [], ◌∷◌, ◌++◌, length, Option, Some, None, IsTrue, codes, if◌then◌else◌}
 use Rattle.std.specs.List.{AllByRecursion}
+use Rattle.std.specs.Str.{bytes_eq}
 use Rattle.byteorder.specs.Endian.{big_bytes}
 use Rattle.class_pool.specs.declared.constant.Constant.{Constant}
-use Rattle.class_pool.specs.declared.constant.Constant.TheVariants.{Utf8, Class as ClassEntry}
 use Rattle.class_pool.specs.Pool.{IsPool, utf8_at, class_name_at}
 use Rattle.class_pool.specs.Pieces.{Counted}
-use Rattle.class_reader.specs.declared.class.Class.{Class}
+use Rattle.class_reader.specs.declared.class.ClassRecord.{ClassRecord}
+use Rattle.class_reader.specs.declared.class.Field.{Field}
 use Rattle.class_reader.specs.declared.class.Method.{Method}
 use Rattle.class_reader.specs.declared.class.Code.{Code}
+use Rattle.class_reader.specs.declared.class.Handler.{Handler}
 use Rattle.class_reader.specs.Flags.{is_static, is_native, is_abstract}
-use Rattle.class_reader.specs.Descriptor.{IsMethodDescriptor}
+use Rattle.class_reader.specs.Descriptor.{IsFieldDescriptor, IsMethodDescriptor}
 
--- what a Code attribute holds (JVMS 4.7.3): no exception table and no attributes stand behind the code
-pub record IsCode (bytes : List ℕ) (code : Code) : Type 0 where
+-- the two bytes are an index that names x
+abbrev pub IsIndex : {A : Type 0} → (ℕ → Option A) → List ℕ → A → Type 0
+IsIndex names bytes x = (index : ℕ) × (index < 2 ^ 16) × (bytes ≡ big_bytes 2 index) × (names index ≡ Some x)
+
+-- ---- attributes
+
+-- an attribute's name and bytes
+pub record Attribute : Type 0 where
+  pub name : List ℕ
+  pub body : List ℕ
+
+-- the index of its name, a length of four bytes, and so many (JVMS 4.7)
+pub record IsAttribute (pool : List (Option Constant)) (bytes : List ℕ) (attribute : Attribute) : Type 0 where
+  pub index : List ℕ
+  pub named : IsIndex (utf8_at pool) index attribute.name
+  pub short : length attribute.body < 2 ^ 32
+  pub parts : bytes ≡ index ++ (big_bytes 4 (length attribute.body) ++ attribute.body)
+
+-- a count of two bytes, and so many attributes
+abbrev pub AreAttributes : List (Option Constant) → List ℕ → Type 0
+AreAttributes pool bytes = (attributes : List Attribute) × Counted (IsAttribute pool) bytes attributes
+
+-- ---- code
+
+-- the index of the class that is caught, or 0, which catches everything
+abbrev pub IsCatch : List (Option Constant) → List ℕ → Option (List ℕ) → Type 0
+IsCatch pool bytes None = bytes ≡ big_bytes 2 0
+IsCatch pool bytes (Some class) = IsIndex (class_name_at pool) bytes class
+
+-- an entry of an exception table (JVMS 4.7.3)
+pub record IsHandler (pool : List (Option Constant)) (bytes : List ℕ) (handler : Handler) : Type 0 where
+  pub catch : List ℕ
+  pub start_fits : handler.start < 2 ^ 16
+  pub end_fits : handler.end < 2 ^ 16
+  pub handler_fits : handler.handler < 2 ^ 16
+  pub catches : IsCatch pool catch handler.catch
+  pub parts : bytes ≡ big_bytes 2 handler.start ++ (big_bytes 2 handler.end ++ (big_bytes 2 handler.handler ++ catch))
+
+-- what a Code attribute holds (JVMS 4.7.3)
+pub record IsCode (pool : List (Option Constant)) (bytes : List ℕ) (code : Code) : Type 0 where
+  pub handlers : List ℕ
+  pub attributes : List ℕ
   pub stack_fits : code.max_stack < 2 ^ 16
   pub locals_fit : code.max_locals < 2 ^ 16
   pub not_empty : 1 ≤ length code.bytes
   pub short : length code.bytes ≤ 65535
-  pub parts : bytes ≡ big_bytes 2 code.max_stack ++ (big_bytes 2 code.max_locals ++ (big_bytes 4 (length code.bytes) ++ (code.bytes ++ (big_bytes 2 0 ++ big_bytes 2 0))))
+  pub are_handlers : Counted (IsHandler pool) handlers code.handlers
+  pub are_attributes : AreAttributes pool attributes
+  pub parts : bytes ≡ big_bytes 2 code.max_stack ++ (big_bytes 2 code.max_locals ++ (big_bytes 4 (length code.bytes) ++ (code.bytes ++ (handlers ++ attributes))))
 
--- an attribute is the index of its name, a length and so many bytes (JVMS 4.7)
-pub record IsCodeAttribute (pool : List (Option Constant)) (bytes : List ℕ) (code : Code) : Type 0 where
-  pub name : ℕ
-  pub body : List ℕ
-  pub name_fits : name < 2 ^ 16
-  pub named : utf8_at pool name ≡ Some (codes "Code")
-  pub parts : bytes ≡ big_bytes 2 name ++ (big_bytes 4 (length body) ++ body)
-  pub holds : IsCode body code
+-- the bytes of the attributes with the name Code
+abbrev pub codes_of : List Attribute → List (List ℕ)
+codes_of [] = []
+codes_of (attribute ∷ attributes) = if bytes_eq attribute.name (codes "Code") then attribute.body ∷ codes_of attributes else codes_of attributes
 
--- flags, the indices of the name and the descriptor, and one attribute (JVMS 4.6). A native or an
--- abstract method has no code.
+-- a native or an abstract method has no Code, and each other one has one (JVMS 4.7.3)
+abbrev pub HasCode : List (Option Constant) → ℕ → List Attribute → Option Code → Type 0
+HasCode pool flags attributes None = IsTrue (is_native flags || is_abstract flags) × (codes_of attributes ≡ [])
+HasCode pool flags attributes (Some code) = IsTrue (not (is_native flags || is_abstract flags)) × ((body : List ℕ) × (codes_of attributes ≡ body ∷ []) × IsCode pool body code)
+
+-- ---- fields and methods
+
+-- flags, the indices of the name and the descriptor, and attributes (JVMS 4.5)
+pub record IsField (pool : List (Option Constant)) (bytes : List ℕ) (field : Field) : Type 0 where
+  pub name : List ℕ
+  pub desc : List ℕ
+  pub attributes : List ℕ
+  pub flags_fit : field.flags < 2 ^ 16
+  pub named : IsIndex (utf8_at pool) name field.name
+  pub described : IsIndex (utf8_at pool) desc field.desc
+  pub descriptor : IsFieldDescriptor field.desc
+  pub are_attributes : AreAttributes pool attributes
+  pub parts : bytes ≡ big_bytes 2 field.flags ++ (name ++ (desc ++ attributes))
+
+-- the same (JVMS 4.6), with the code in an attribute
 pub record IsMethod (pool : List (Option Constant)) (bytes : List ℕ) (method : Method) : Type 0 where
-  pub name : ℕ
-  pub desc : ℕ
-  pub attribute : List ℕ
+  pub name : List ℕ
+  pub desc : List ℕ
+  pub attributes : List ℕ
+  pub stored : List Attribute
   pub flags_fit : method.flags < 2 ^ 16
-  pub name_fits : name < 2 ^ 16
-  pub desc_fits : desc < 2 ^ 16
-  pub parts : bytes ≡ big_bytes 2 method.flags ++ (big_bytes 2 name ++ (big_bytes 2 desc ++ (big_bytes 2 1 ++ attribute)))
-  pub named : utf8_at pool name ≡ Some method.name
-  pub described : utf8_at pool desc ≡ Some method.desc
+  pub named : IsIndex (utf8_at pool) name method.name
+  pub described : IsIndex (utf8_at pool) desc method.desc
   pub descriptor : IsMethodDescriptor (is_static method.flags) method.desc
-  pub has_code : IsTrue (not (is_native method.flags || is_abstract method.flags))
-  pub code : IsCodeAttribute pool attribute method.code
+  pub are_attributes : Counted (IsAttribute pool) attributes stored
+  pub has_code : HasCode pool method.flags stored method.code
+  pub parts : bytes ≡ big_bytes 2 method.flags ++ (name ++ (desc ++ attributes))
 
--- the methods have one name and one descriptor
-abbrev pub SameMember : Method → Method → Type 0
-SameMember a b = (a.name ≡ b.name) × (a.desc ≡ b.desc)
-
--- no two have
-abbrev pub AreDistinct : List Method → Type 0
+-- no element is the same as a later one
+abbrev pub AreDistinct : {A : Type 0} → List A → Type 0
 AreDistinct [] = Unit {0}
-AreDistinct (method ∷ methods) = AllByRecursion (λ other. ¬ SameMember method other) methods × AreDistinct methods
+AreDistinct (x ∷ xs) = AllByRecursion (λ y. x ≢ y) xs × AreDistinct xs
 
--- a Utf8 or a Class
-abbrev pub is_first_form : Option Constant → Bool
-is_first_form (Some (Utf8 text)) = true
-is_first_form (Some (ClassEntry name)) = true
-is_first_form other = false
+abbrev pub field_pairs : List Field → List (List ℕ × List ℕ)
+field_pairs [] = []
+field_pairs (field ∷ fields) = (field.name, field.desc) ∷ field_pairs fields
 
--- each entry of the pool is a Utf8 or a Class
-abbrev pub IsFirstForm : List (Option Constant) → Type 0
-IsFirstForm pool = AllByRecursion (λ slot. IsTrue (is_first_form slot)) pool
+abbrev pub method_pairs : List Method → List (List ℕ × List ℕ)
+method_pairs [] = []
+method_pairs (method ∷ methods) = (method.name, method.desc) ∷ method_pairs methods
 
--- magic, versions, pool, flags, this class, super class, no interfaces, no fields, methods, no attributes (JVMS 4.1)
-pub record IsClassFile (bytes : List ℕ) (class : Class) : Type 0 where
+-- ---- the class
+
+-- magic, versions, pool, flags, this class, superclass, interfaces, fields, methods, attributes (JVMS 4.1)
+pub record IsClassFile (bytes : List ℕ) (class : ClassRecord) : Type 0 where
   pub minor : ℕ
-  pub pool : List (Option Constant)
-  pub pool_bytes : List ℕ
-  pub this : ℕ
-  pub super : ℕ
+  pub pool : List ℕ
+  pub this : List ℕ
+  pub super : List ℕ
   pub super_class : List ℕ
+  pub interfaces : List ℕ
+  pub fields : List ℕ
   pub methods : List ℕ
+  pub attributes : List ℕ
   pub minor_fits : minor < 2 ^ 16
   pub version : (45 ≤ class.major) × (class.major ≤ 65)
   pub flags_fit : class.flags < 2 ^ 16
-  pub this_fits : this < 2 ^ 16
-  pub super_fits : super < 2 ^ 16
-  pub parts : bytes ≡ 202 ∷ 254 ∷ 186 ∷ 190 ∷ big_bytes 2 minor ++ (big_bytes 2 class.major ++ (pool_bytes ++ (big_bytes 2 class.flags ++ (big_bytes 2 this ++ (big_bytes 2 super ++ (big_bytes 2 0 ++ (big_bytes 2 0 ++ (methods ++ big_bytes 2 0))))))))
-  pub is_pool : IsPool pool_bytes pool
-  pub first_form : IsFirstForm pool
-  pub named : class_name_at pool this ≡ Some class.name
-  pub below : (class_name_at pool super ≡ Some super_class) × (class.super_name ≡ Some super_class)
-  pub are_methods : Counted (IsMethod pool) methods class.methods
-  pub distinct : AreDistinct class.methods
+  pub is_pool : IsPool pool class.pool
+  pub named : IsIndex (class_name_at class.pool) this class.name
+  pub below : IsIndex (class_name_at class.pool) super super_class × (class.super_name ≡ Some super_class)
+  pub are_interfaces : Counted (IsIndex (class_name_at class.pool)) interfaces class.interfaces
+  pub are_fields : Counted (IsField class.pool) fields class.fields
+  pub are_methods : Counted (IsMethod class.pool) methods class.methods
+  pub are_attributes : AreAttributes class.pool attributes
+  -- no two fields have one name and descriptor, and no two methods (JVMS 4.5, 4.6)
+  pub distinct_fields : AreDistinct (field_pairs class.fields)
+  pub distinct_methods : AreDistinct (method_pairs class.methods)
   pub not_built_in : class.name ≢ codes "java/lang/Object"
+  pub parts : bytes ≡ 202 ∷ 254 ∷ 186 ∷ 190 ∷ big_bytes 2 minor ++ (big_bytes 2 class.major ++ (pool ++ (big_bytes 2 class.flags ++ (this ++ (super ++ (interfaces ++ (fields ++ (methods ++ attributes))))))))

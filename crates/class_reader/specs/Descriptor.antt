@@ -48,6 +48,12 @@ HasForm (Array element) = HasForm element
 abbrev pub IsFieldType : FieldType → Type 0
 IsFieldType type = HasForm type × (dimensions type ≤ 255)
 
+-- the descriptor of a field is its type (JVMS 4.3.2)
+pub record IsFieldDescriptor (desc : List ℕ) : Type 0 where
+  pub type : FieldType
+  pub parts : desc ≡ type_text type
+  pub fits : IsFieldType type
+
 -- what stands behind the parameters: `V` where nothing is returned
 abbrev pub result_text : Option FieldType → List ℕ
 result_text None = 86 ∷ []

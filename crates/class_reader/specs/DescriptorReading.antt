@@ -29,6 +29,10 @@ abbrev pub is_last : Option (ℕ × List ℕ) → Bool
 is_last None = false
 is_last (Some (words, behind)) = length behind == 0
 
+-- whether the text is the descriptor of a field
+abbrev pub is_field : List ℕ → Bool
+is_field text = is_last (type_from 0 text)
+
 -- whether the text is `V` or a type
 abbrev pub is_result : List ℕ → Bool
 is_result text = bytes_eq text (86 ∷ []) || is_last (type_from 0 text)

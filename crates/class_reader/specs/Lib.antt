@@ -1,6 +1,13 @@
 pub mod Descriptor
 pub mod DescriptorReading
 pub mod Flags
-pub mod ClassFile
 pub mod Faults
-pub mod Reading
+pub mod Met
+pub mod ClassReading
+pub mod MemberReading
+pub mod TextTable
+pub mod ClassFile
+pub mod FirstFault
+pub mod Verdict
+pub mod Settling
+pub mod Valid

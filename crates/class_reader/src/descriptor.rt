@@ -1,6 +1,6 @@
 ghost use Rattle.std.specs.Prelude.{◌≡◌, ◌↔◌, ℕ, List, IsTrue, IfSome, IfNone, Option, option_map, true, false};
-ghost use Rattle.class_reader.specs.Descriptor.{IsMethodDescriptor, TakesInts, is_base_letter, is_name_byte};
-ghost use Rattle.class_reader.specs.DescriptorReading.{name_from, element_from, type_from, ints_from, is_last, is_plain_end, describes, IsRest, IsResult};
+ghost use Rattle.class_reader.specs.Descriptor.{IsFieldDescriptor, IsMethodDescriptor, TakesInts, is_base_letter, is_name_byte};
+ghost use Rattle.class_reader.specs.DescriptorReading.{name_from, element_from, type_from, ints_from, is_last, is_field, is_plain_end, describes, IsRest, IsResult};
 
 /// How many dimensions a type has at most.
 const MAX_DIMENSIONS: usize = 255;
@@ -78,6 +78,20 @@ fn is_type(text: &[u8]) -> bool
         Some((_, behind)) => behind.is_empty(),
         None => false,
     }
+}
+
+/// Whether the text is the descriptor of a field (JVMS 4.3.2).
+pub fn is_field_descriptor(desc: &[u8]) -> bool
+    ensures { IsTrue result ↔ IsFieldDescriptor desc.now }
+{
+    is_type(desc)
+}
+
+// The same, as a test on the text.
+pub(crate) fn is_field(desc: &[u8]) -> bool
+    ensures { result ≡ is_field desc.now }
+{
+    is_type(desc)
 }
 
 // Whether the text is `V` or a type.

@@ -1,234 +1,198 @@
 -- From what the parts of the call leave to the causes of its answers.
-use Rattle.std.proofs.Common.{◌≡◌, ◌≢◌, ◌⊎◌, inl, inr, ℕ, Bool, true, false, List, Option, Some, None, refl, sym, ◌∙◌, ap, subst}
-use Rattle.std.specs.Option.{option_map}
+use Rattle.std.proofs.Common.{◌≡◌, ℕ, ◌<◌, ◌≤◌, Bool, true, false, List, length, Option, Some, None, Result, Ok, Err, refl, sym, ◌∙◌, ap, subst, arith}
 use Rattle.class_pool.specs.declared.target.Target.{Target}
-use Rattle.class_reader.specs.declared.class.Class.{Class}
-use Rattle.class_reader.specs.declared.class.Method.{Method}
-use Rattle.class_reader.specs.ClassFile.{IsClassFile}
-use Rattle.class_reader.specs.Flags.{is_static}
-use Rattle.op_table.specs.declared.construct.Construct.{Construct}
-use Rattle.op_table.specs.declared.construct.Construct.TheVariants.{Later}
+use Rattle.class_reader.specs.declared.class.ClassRecord.{ClassRecord}
+use Rattle.world.specs.declared.fault.WorldFault.{WorldFault}
+use Rattle.world.specs.World.{world_of}
+use Rattle.world.specs.Building.{IsWellBuilt, IsFault}
+use Rattle.cost_words.specs.declared.command.Command.{Command}
+use Rattle.cost_words.specs.declared.command.Command.TheVariants as commands
+use Rattle.cost_words.specs.declared.command.Cost.{Cost}
+use Rattle.cost_words.specs.declared.command.Cost.TheVariants.{Instructions, Objects, Weights}
+use Rattle.cost_words.specs.declared.command.PathWord.{PathWord}
+use Rattle.cost_words.specs.declared.fault.WordFault.{WordFault}
+use Rattle.cost_words.specs.declared.fault.WordFault.TheVariants.{Memory, Wrong}
+use Rattle.costa.specs.declared.fetching.File.{File}
+use Rattle.costa.specs.declared.status.FaultKind.{FaultKind}
+use Rattle.costa.specs.declared.status.LimitKind.TheVariants.{Files, Bytes}
 use Rattle.costa.specs.declared.status.Status.{Status}
 use Rattle.costa.specs.declared.status.Status.TheVariants as answers
-use Rattle.costa.specs.declared.verdict.Verdict.{Verdict}
-use Rattle.costa.specs.declared.verdict.Verdict.TheVariants.{Counts, Stands}
-use Rattle.ports.specs.Shelf.{ShelfState, Blames, Holds, HoldsLonger, bytes_at}
-use Rattle.ports.specs.Sink.{SinkState, Appends}
-use Rattle.costa.specs.Words.{Asked}
-use Rattle.costa.specs.Answer.{verdict_of, answer_for}
-use Rattle.costa.specs.Report.{report_of}
-use Rattle.costa.specs.Headline.{Reads, Declares, HasBound, HasNoMethod, IsUnsupported, StandsAgainst, IsNoClass, ReadsNoClass, IsNotYet, IsFetchFault, IsTooLong, Tells}
-use Rattle.costa.specs.Answers.{IsAnswer, no_request, fault, too_long, no_class, on_class, OnBytes, class, none, WasPut, whole, failed, out_of_memory, Outcome, answered, gave_up, IsOutFault, IsReported, UnlessNotPut, so, not_put, no_memory, UnlessOutside, put_so, not_fetched, not_short}
+use Rattle.costa.specs.declared.words.Request.{Request}
+use Rattle.ports.specs.Shelf.{ShelfState}
+use Rattle.ports.specs.Sink.{SinkState}
+use Rattle.costa.specs.Words.{bound_asked, asked_by, asked_of, paths_of}
+use Rattle.costa.specs.Files.{HoldBytes, HoldsAll, Tells, IsTooBig, total, most_files, most_bytes}
+use Rattle.costa.specs.Classes.{AreClasses, IsBadClass}
+use Rattle.costa.specs.Answer.{class_named, answer_in, answer_on}
+use Rattle.costa.specs.Headline.{ReadsAll, Reads, HasBound}
+use Rattle.costa.specs.Causes.{IsUsage, IsLimit, files, bytes, IsFetchFault, IsTooLong, IsNotYet, HasBadClass, HasBadWorld, HasNoMethod, no_class, undeclared, without_code, IsUnsupported}
+use Rattle.costa.specs.Answers.{OnClasses, world, no_world, OnFiles, read, bad, IsAnswer, usage, later, many, fault, overlong, too_big, on_files, WasPut, whole, failed, out_of_memory, Outcome, answered, gave_up, IsOutFault, IsReported, UnlessNotPut, so, not_put, no_memory, UnlessOutside, put_so, not_fetched, not_short, AsksFor}
 use Rattle.costa.proofs.Straight.{straight_costs}
-use Rattle.costa.proofs.Found.{Rests, bounds, lacks, refuses, rests}
+use Rattle.costa.proofs.Found.{Rests, bounds, lacks, empty, refuses, rests}
+use Rattle.costa.proofs.Worlds.{has_name, same_fault, no_fault}
+use Rattle.costa.proofs.Told.{Decided, same_files, not_too_big, same_classes, no_bad_class, same_bad_class}
 
--- the answer on the bytes that were fetched
-pub fetched : (asked : Asked) (bytes : List ℕ) (before after : ShelfState) (status : Status) → Holds before.files asked.path bytes
-    → OnBytes asked.target bytes status → IsAnswer (Some asked) before after status
-fetched asked bytes before after status held (class c read is) = on_class asked bytes c refl held read is
-fetched asked bytes before after status held (none not is) = no_class asked bytes refl held not is
+abbrev pub Asked : Type 0
+Asked = Result Request Status
 
--- ---- an answer that is reported is an answer to the words
+-- the cause of each answer that is reported
+abbrev pub Cause : Asked → ShelfState → ShelfState → Status → Type 0
+Cause asked before after (answers.Bound n) = HasBound asked before n
+Cause asked before after (answers.Unsupported target pc construct) = IsUnsupported asked before target pc construct
+Cause asked before after (answers.Limit kind number) = IsLimit asked before kind number
+Cause asked before after (answers.NotYet word) = IsNotYet asked word
+Cause asked before after (answers.BadClass word offset kind) = HasBadClass asked before word offset kind
+Cause asked before after (answers.BadWorld why) = HasBadWorld asked before why
+Cause asked before after (answers.NoMethod target) = HasNoMethod asked before target
+Cause asked before after (answers.Usage index) = asked ≡ Err (answers.Usage index)
+Cause asked before after (answers.FetchFault word) = IsFetchFault asked before after word
+Cause asked before after (answers.TooLong word) = IsTooLong asked before after word
+Cause asked before after answers.OutFault = ⊥
+Cause asked before after answers.Memory = ⊥
 
-put_answer : (asked : Option Asked) (before after : ShelfState) (status result : Status) (old new : SinkState) → IsAnswer asked before after status
-    → WasPut status result old new → IsReported result → IsAnswer asked before after result
-put_answer asked before after status result old new answer (whole same put) reported =
-    subst (λ (s : Status). IsAnswer asked before after s) (sym same) answer
-put_answer asked before after status result old new answer (failed is rises taken) reported = absurd (reported.put is)
-put_answer asked before after status result old new answer (out_of_memory is kept) reported = absurd (reported.held is)
+-- an answer has the cause of what it is
+moved : (asked : Asked) (before after : ShelfState) (status wanted : Status) → status ≡ wanted → Cause asked before after wanted → Cause asked before after status
+moved asked before after status wanted is cause = subst (λ (s : Status). Cause asked before after s) (sym is) cause
 
-answers_words : (asked : Option Asked) (before after : ShelfState) (result : Status) (old new : SinkState) → Outcome asked before after result old new
-    → IsReported result → IsAnswer asked before after result
-answers_words asked before after result old new (answered status answer put) reported =
-    put_answer asked before after status result old new answer put reported
-answers_words asked before after result old new (gave_up is kept) reported = absurd (reported.held is)
-
--- ---- each answer, by its cause
-
--- the class of an answer
-reads_of : (asked : Option Asked) (before : ShelfState) (request : Asked) (bytes : List ℕ) (read : Class) → asked ≡ Some request
-    → Holds before.files request.path bytes → IsClassFile bytes read → Reads asked before request.target read
-reads_of asked before request bytes read is held file =
-    record { request = request; bytes = bytes; is_asked = is; is_target = refl; held = held; read = file }
-
-bound_on : (asked : Option Asked) (before : ShelfState) (target : Target) (read : Class) (bound : ℕ) → Reads asked before target read
-    → Rests target read (answers.Bound bound) → HasBound asked before bound
-bound_on asked before target read bound reads (bounds place method count declared static counts is) =
-    let same : count ≡ bound = cc in
-    record {
+on_class : (asked : Asked) (before after : ShelfState) (target : Target) (class : ClassRecord) (status : Status)
+    → Reads asked before target class → Rests target class status → Cause asked before after status
+on_class asked before after target class status reads (bounds place method code count declared has none static counts is) =
+    moved asked before after status (answers.Bound count) is (record {
       target = target;
-      class = read;
+      class = class;
       place = place;
       method = method;
+      code = code;
       reads = reads;
       declared = declared;
+      has_code = has;
+      no_handlers = none;
       static = static;
-      bounded = straight_costs read place method bound declared.stands (counts ∙ ap Counts same);
-    }
-bound_on asked before target read bound reads (lacks lack is) = absurd cc
-bound_on asked before target read bound reads (refuses place method pc construct declared against is) = absurd cc
-
-answer_bound : (asked : Option Asked) (before after : ShelfState) (bound : ℕ) → IsAnswer asked before after (answers.Bound bound) → HasBound asked before bound
-answer_bound asked before after bound (no_request not is) = absurd cc
-answer_bound asked before after bound (fault request a blames is) = absurd cc
-answer_bound asked before after bound (too_long request a blames longer is) = absurd cc
-answer_bound asked before after bound (no_class request bytes a held not is) = absurd cc
-answer_bound asked before after bound (on_class request bytes read a held file is) =
-    bound_on asked before request.target read bound (reads_of asked before request bytes read a held file) (rests request.target read (answers.Bound bound) is)
-
--- on a class nothing is answered but a bound, that there is no such method, or what stands against a bound
-not_yet_on : {P : Type 0} (target : Target) (read : Class) (word : ℕ) → Rests target read (answers.NotYet word) → P
-not_yet_on target read word (bounds place method count declared static counts is) = absurd cc
-not_yet_on target read word (lacks lack is) = absurd cc
-not_yet_on target read word (refuses place method pc construct declared against is) = absurd cc
-
-fetch_fault_on : {P : Type 0} (target : Target) (read : Class) (word : ℕ) → Rests target read (answers.FetchFault word) → P
-fetch_fault_on target read word (bounds place method count declared static counts is) = absurd cc
-fetch_fault_on target read word (lacks lack is) = absurd cc
-fetch_fault_on target read word (refuses place method pc construct declared against is) = absurd cc
-
-too_long_on : {P : Type 0} (target : Target) (read : Class) (word : ℕ) → Rests target read (answers.TooLong word) → P
-too_long_on target read word (bounds place method count declared static counts is) = absurd cc
-too_long_on target read word (lacks lack is) = absurd cc
-too_long_on target read word (refuses place method pc construct declared against is) = absurd cc
-
-answer_not_yet : (asked : Option Asked) (before after : ShelfState) (word : ℕ) → IsAnswer asked before after (answers.NotYet word) → IsNotYet asked before word
-answer_not_yet asked before after word (no_request not is) = inl (cc, not)
-answer_not_yet asked before after word (fault request a blames is) = absurd cc
-answer_not_yet asked before after word (too_long request a blames longer is) = absurd cc
-answer_not_yet asked before after word (no_class request bytes a held not is) =
-    inr (cc, record { request = request; bytes = bytes; is_asked = a; held = held; none = not })
-answer_not_yet asked before after word (on_class request bytes read a held file is) =
-    not_yet_on request.target read word (rests request.target read (answers.NotYet word) is)
-
-answer_fetch_fault : (asked : Option Asked) (before after : ShelfState) (word : ℕ) → IsAnswer asked before after (answers.FetchFault word)
-    → IsFetchFault asked before after word
-answer_fetch_fault asked before after word (no_request not is) = absurd cc
-answer_fetch_fault asked before after word (fault request a blames is) = record { request = request; third = cc; is_asked = a; blames = blames }
-answer_fetch_fault asked before after word (too_long request a blames longer is) = absurd cc
-answer_fetch_fault asked before after word (no_class request bytes a held not is) = absurd cc
-answer_fetch_fault asked before after word (on_class request bytes read a held file is) =
-    fetch_fault_on request.target read word (rests request.target read (answers.FetchFault word) is)
-
-answer_too_long : (asked : Option Asked) (before after : ShelfState) (word : ℕ) → IsAnswer asked before after (answers.TooLong word)
-    → IsTooLong asked before after word
-answer_too_long asked before after word (no_request not is) = absurd cc
-answer_too_long asked before after word (fault request a blames is) = absurd cc
-answer_too_long asked before after word (too_long request a blames longer is) =
-    record { request = request; third = cc; is_asked = a; blames = blames; longer = longer }
-answer_too_long asked before after word (no_class request bytes a held not is) = absurd cc
-answer_too_long asked before after word (on_class request bytes read a held file is) =
-    too_long_on request.target read word (rests request.target read (answers.TooLong word) is)
-
--- the target that is answered is the one that was asked for
-no_method_on : (asked : Option Asked) (before : ShelfState) (request : Asked) (read : Class) (target : Target) → Reads asked before request.target read
-    → Rests request.target read (answers.NoMethod target) → HasNoMethod asked before target
-no_method_on asked before request read target reads (bounds place method count declared static counts is) = absurd cc
-no_method_on asked before request read target reads (lacks lack is) =
-    let same : request.target ≡ target = cc in
-    subst (λ (t : Target). HasNoMethod asked before t) same (record { class = read; reads = reads; none = lack })
-no_method_on asked before request read target reads (refuses place method pc construct declared against is) = absurd cc
-
-answer_no_method : (asked : Option Asked) (before after : ShelfState) (target : Target) → IsAnswer asked before after (answers.NoMethod target)
-    → HasNoMethod asked before target
-answer_no_method asked before after target (no_request not is) = absurd cc
-answer_no_method asked before after target (fault request a blames is) = absurd cc
-answer_no_method asked before after target (too_long request a blames longer is) = absurd cc
-answer_no_method asked before after target (no_class request bytes a held not is) = absurd cc
-answer_no_method asked before after target (on_class request bytes read a held file is) =
-    no_method_on asked before request read target (reads_of asked before request bytes read a held file) (rests request.target read (answers.NoMethod target) is)
-
-unsupported_on : (asked : Option Asked) (before : ShelfState) (request : Asked) (read : Class) (target : Target) (pc : ℕ) (construct : Construct)
-    → Reads asked before request.target read → Rests request.target read (answers.Unsupported target pc construct)
-    → IsUnsupported asked before target pc construct
-unsupported_on asked before request read target pc construct reads (bounds place method count declared static counts is) = absurd cc
-unsupported_on asked before request read target pc construct reads (lacks lack is) = absurd cc
-unsupported_on asked before request read target pc construct reads (refuses place method at other declared against is) =
-    let same : request.target ≡ target = cc in
-    let same_pc : at ≡ pc = cc in
-    let same_construct : other ≡ construct = cc in
-    subst (λ (t : Target). IsUnsupported asked before t pc construct) same (record {
-      class = read;
+      bounded = straight_costs class place method code count declared.stands has counts;
+    })
+on_class asked before after target class status reads (lacks lack is) = moved asked before after status (answers.NoMethod target) is (undeclared class reads lack)
+on_class asked before after target class status reads (empty place method declared none is) =
+    moved asked before after status (answers.NoMethod target) is (without_code class place method reads declared none)
+on_class asked before after target class status reads (refuses place method code pc construct declared has against is) =
+    moved asked before after status (answers.Unsupported target pc construct) is (record {
+      class = class;
       place = place;
       method = method;
+      code = code;
       reads = reads;
       declared = declared;
-      against = subst (λ (n : ℕ). StandsAgainst method n construct) same_pc (subst (λ (k : Construct). StandsAgainst method at k) same_construct against);
+      has_code = has;
+      against = against;
     })
 
-answer_unsupported : (asked : Option Asked) (before after : ShelfState) (target : Target) (pc : ℕ) (construct : Construct)
-    → IsAnswer asked before after (answers.Unsupported target pc construct) → IsUnsupported asked before target pc construct
-answer_unsupported asked before after target pc construct (no_request not is) = absurd cc
-answer_unsupported asked before after target pc construct (fault request a blames is) = absurd cc
-answer_unsupported asked before after target pc construct (too_long request a blames longer is) = absurd cc
-answer_unsupported asked before after target pc construct (no_class request bytes a held not is) = absurd cc
-answer_unsupported asked before after target pc construct (on_class request bytes read a held file is) =
-    unsupported_on asked before request read target pc construct (reads_of asked before request bytes read a held file)
-    (rests request.target read (answers.Unsupported target pc construct) is)
+on_world : (asked : Asked) (before after : ShelfState) (target : Target) (classes : List ClassRecord) (status : Status) (found : Option ClassRecord)
+    → ReadsAll asked before target classes → IsWellBuilt (world_of classes) → class_named target (world_of classes) ≡ found → status ≡ answer_in target found
+    → Cause asked before after status
+on_world asked before after target classes status None all built named is = moved asked before after status (answers.NoMethod target) is (no_class classes all built named)
+on_world asked before after target classes status (Some class) all built named is =
+    on_class asked before after target class status (record { classes = classes; all = all; well_built = built; named = named })
+    (rests target class status (has_name target (world_of classes) class named) is)
 
--- ---- the same of what the call answers
+on_classes : (asked : Asked) (before after : ShelfState) (target : Target) (classes : List ClassRecord) (status : Status) → ReadsAll asked before target classes
+    → OnClasses target classes status → Cause asked before after status
+on_classes asked before after target classes status all (world built is) =
+    on_world asked before after target classes status (class_named target (world_of classes)) all built refl is
+on_classes asked before after target classes status all (no_world why is_fault is) =
+    moved asked before after status (answers.BadWorld why) is (record { target = target; classes = classes; all = all; is_fault = is_fault })
 
-told : (asked : Option Asked) (before after : ShelfState) (result status : Status) (old new : SinkState) → Outcome asked before after result old new
-    → result ≡ status → IsReported status → IsAnswer asked before after status
-told asked before after result status old new outcome is reported =
-    let moved = subst (λ (s : Status). Outcome asked before after s old new) is outcome in
-    answers_words asked before after status old new moved reported
+on_read : (asked : Asked) (before after : ShelfState) (request : Request) (fs : List File) (status : Status) → asked ≡ Ok request
+    → HoldsAll before.files request.files fs → OnFiles request.target fs status → Cause asked before after status
+on_read asked before after request fs status a held (read classes are on) =
+    let all : ReadsAll asked before request.target classes =
+    record { request = request; files = fs; is_asked = a; is_target = refl; held = held; read = are } in
+    on_classes asked before after request.target classes status all on
+on_read asked before after request fs status a held (bad word offset kind is_bad is) =
+    moved asked before after status (answers.BadClass word offset kind) is (record { request = request; files = fs; is_asked = a; held = held; bad = is_bad })
 
-pub is_bound : (asked : Option Asked) (before after : ShelfState) (result : Status) (old new : SinkState) → Outcome asked before after result old new
-    → (bound : ℕ) → result ≡ answers.Bound bound → HasBound asked before bound
-is_bound asked before after result old new outcome bound is =
-    answer_bound asked before after bound (told asked before after result (answers.Bound bound) old new outcome is (record { put = λ e. cc; held = λ e. cc }))
+pub cause_of : (asked : Asked) (before after : ShelfState) (status : Status) → IsAnswer asked before after status → Cause asked before after status
+cause_of asked before after status (usage index a is) = moved asked before after status (answers.Usage index) is a
+cause_of asked before after status (later word a is) = moved asked before after status (answers.NotYet word) is a
+cause_of asked before after status (many request a more is) =
+    moved asked before after status (answers.Limit Files most_files) is (files request a more refl refl)
+cause_of asked before after status (fault request word a within at is) =
+    moved asked before after status (answers.FetchFault word) is (record { request = request; is_asked = a; failed = at })
+cause_of asked before after status (overlong request word a within at is) =
+    moved asked before after status (answers.TooLong word) is (record { request = request; is_asked = a; overlong = at })
+cause_of asked before after status (too_big request a within big is) =
+    moved asked before after status (answers.Limit Bytes most_bytes) is (bytes request a big refl refl)
+cause_of asked before after status (on_files request fs a within held hold fits on) = on_read asked before after request fs status a held on
 
-pub is_not_yet : (asked : Option Asked) (before after : ShelfState) (result : Status) (old new : SinkState) → Outcome asked before after result old new
-    → (word : ℕ) → result ≡ answers.NotYet word → IsNotYet asked before word
-is_not_yet asked before after result old new outcome word is =
-    answer_not_yet asked before after word (told asked before after result (answers.NotYet word) old new outcome is (record { put = λ e. cc; held = λ e. cc }))
+-- ---- what the call answers
 
-pub is_fetch_fault : (asked : Option Asked) (before after : ShelfState) (result : Status) (old new : SinkState) → Outcome asked before after result old new
-    → (word : ℕ) → result ≡ answers.FetchFault word → IsFetchFault asked before after word
-is_fetch_fault asked before after result old new outcome word is =
-    answer_fetch_fault asked before after word (told asked before after result (answers.FetchFault word) old new outcome is (record { put = λ e. cc; held = λ e. cc }))
+put_cause : (asked : Asked) (before after : ShelfState) (status result : Status) (old new : SinkState) → IsAnswer asked before after status
+    → WasPut status result old new → IsReported result → Cause asked before after result
+put_cause asked before after status result old new answer (whole same put) reported = moved asked before after result status same (cause_of asked before after status answer)
+put_cause asked before after status result old new answer (failed is rises taken) reported = absurd (reported.put is)
+put_cause asked before after status result old new answer (out_of_memory is kept) reported = absurd (reported.held is)
 
-pub is_too_long : (asked : Option Asked) (before after : ShelfState) (result : Status) (old new : SinkState) → Outcome asked before after result old new
-    → (word : ℕ) → result ≡ answers.TooLong word → IsTooLong asked before after word
-is_too_long asked before after result old new outcome word is =
-    answer_too_long asked before after word (told asked before after result (answers.TooLong word) old new outcome is (record { put = λ e. cc; held = λ e. cc }))
+told_cause : (asked : Asked) (before after : ShelfState) (result : Status) (old new : SinkState) → Outcome asked before after result old new
+    → IsReported result → Cause asked before after result
+told_cause asked before after result old new (answered status answer put) reported = put_cause asked before after status result old new answer put reported
+told_cause asked before after result old new (gave_up is kept) reported = absurd (reported.held is)
 
-pub is_no_method : (asked : Option Asked) (before after : ShelfState) (result : Status) (old new : SinkState) → Outcome asked before after result old new
-    → (target : Target) → result ≡ answers.NoMethod target → HasNoMethod asked before target
-is_no_method asked before after result old new outcome target is =
-    answer_no_method asked before after target (told asked before after result (answers.NoMethod target) old new outcome is (record { put = λ e. cc; held = λ e. cc }))
+-- a result that is reported has its cause
+pub has_cause : (asked : Asked) (before after : ShelfState) (result wanted : Status) (old new : SinkState) → Outcome asked before after result old new
+    → result ≡ wanted → IsReported wanted → Cause asked before after wanted
+has_cause asked before after result wanted old new outcome is reported =
+    told_cause asked before after wanted old new (subst (λ (s : Status). Outcome asked before after s old new) is outcome) reported
 
-pub is_unsupported : (asked : Option Asked) (before after : ShelfState) (result : Status) (old new : SinkState) → Outcome asked before after result old new
-    → (target : Target) (pc : ℕ) (construct : Construct) → result ≡ answers.Unsupported target pc construct → IsUnsupported asked before target pc construct
-is_unsupported asked before after result old new outcome target pc construct is =
-    answer_unsupported asked before after target pc construct
-    (told asked before after result (answers.Unsupported target pc construct) old new outcome is (record { put = λ e. cc; held = λ e. cc }))
+-- ---- the words
+
+bound_is_no_usage : (cost : Cost) (proof : Bool) (target : Target) (paths : List PathWord) (index : ℕ) → bound_asked cost proof target paths ≡ Err (answers.Usage index) → ⊥
+bound_is_no_usage Instructions true target paths index e = cc
+bound_is_no_usage Instructions false target paths index e = cc
+bound_is_no_usage Objects proof target paths index e = cc
+bound_is_no_usage (Weights path) proof target paths index e = cc
+
+command_is_no_usage : (command : Command) (index : ℕ) → asked_by command ≡ Err (answers.Usage index) → ⊥
+command_is_no_usage (commands.Bound cost proof target paths) index e = bound_is_no_usage cost proof target paths index e
+command_is_no_usage (commands.Check cost report target paths) index e = cc
+command_is_no_usage (commands.Relations cost target paths) index e = cc
+command_is_no_usage (commands.Run cost steps target args paths) index e = cc
+command_is_no_usage (commands.Sample number methods) index e = cc
+
+pub is_usage : (meaning : Result Command WordFault) (index : ℕ) → asked_of meaning ≡ Err (answers.Usage index) → IsUsage meaning index
+is_usage (Ok command) index e = absurd (command_is_no_usage command index e)
+is_usage (Err (Wrong kind i)) index e = let same : i ≡ index = cc in (kind, ap (λ (n : ℕ). Err (Wrong kind n)) same)
+is_usage (Err Memory) index e = absurd cc
+
+bound_refused : (cost : Cost) (proof : Bool) (target : Target) (paths : List PathWord) (before after : ShelfState) (status : Status)
+    → bound_asked cost proof target paths ≡ Err status → IsAnswer (bound_asked cost proof target paths) before after status
+bound_refused Instructions true target paths before after status e = later _ refl cc
+bound_refused Instructions false target paths before after status e = absurd cc
+bound_refused Objects proof target paths before after status e = later 2 refl cc
+bound_refused (Weights path) proof target paths before after status e = later 2 refl cc
+
+command_refused : (command : Command) (before after : ShelfState) (status : Status) → asked_by command ≡ Err status → IsAnswer (asked_by command) before after status
+command_refused (commands.Bound cost proof target paths) before after status e = bound_refused cost proof target paths before after status e
+command_refused (commands.Check cost report target paths) before after status e = later 1 refl cc
+command_refused (commands.Relations cost target paths) before after status e = later 1 refl cc
+command_refused (commands.Run cost steps target args paths) before after status e = later 1 refl cc
+command_refused (commands.Sample number methods) before after status e = later 1 refl cc
+
+-- the answer where the words ask for nothing that is built
+pub answer_refused : (meaning : Result Command WordFault) (before after : ShelfState) (status : Status) → asked_of meaning ≡ Err status
+    → (asked_of meaning ≡ Err answers.Memory → ⊥) → IsAnswer (asked_of meaning) before after status
+answer_refused (Ok command) before after status e reported = command_refused command before after status e
+answer_refused (Err (Wrong kind index)) before after status e reported = usage index refl cc
+answer_refused (Err Memory) before after status e reported = absurd (reported refl)
 
 -- ---- where the sink fails
 
-no_fault_on : {P : Type 0} (target : Target) (read : Class) → Rests target read answers.OutFault → P
-no_fault_on target read (bounds place method count declared static counts is) = absurd cc
-no_fault_on target read (lacks lack is) = absurd cc
-no_fault_on target read (refuses place method pc construct declared against is) = absurd cc
-
--- that isn't an answer of its own
-no_out_fault : {P : Type 0} (asked : Option Asked) (before after : ShelfState) → IsAnswer asked before after answers.OutFault → P
-no_out_fault asked before after (no_request not is) = absurd cc
-no_out_fault asked before after (fault request a blames is) = absurd cc
-no_out_fault asked before after (too_long request a blames longer is) = absurd cc
-no_out_fault asked before after (no_class request bytes a held not is) = absurd cc
-no_out_fault asked before after (on_class request bytes read a held file is) = no_fault_on request.target read (rests request.target read answers.OutFault is)
-
-put_fault : (asked : Option Asked) (before after : ShelfState) (status result : Status) (old new : SinkState) → IsAnswer asked before after status
+put_fault : (asked : Asked) (before after : ShelfState) (status result : Status) (old new : SinkState) → IsAnswer asked before after status
     → WasPut status result old new → result ≡ answers.OutFault → IsOutFault asked before after old new
 put_fault asked before after status result old new answer (whole same put) is =
-    no_out_fault asked before after (subst (λ (s : Status). IsAnswer asked before after s) (sym same ∙ is) answer)
+    absurd (subst (λ (s : Status). Cause asked before after s) (sym same ∙ is) (cause_of asked before after status answer))
 put_fault asked before after status result old new answer (failed same rises taken) is =
     record { status = status; answer = answer; rises = rises; taken = taken }
 put_fault asked before after status result old new answer (out_of_memory same kept) is = absurd cc
 
-pub is_out_fault : (asked : Option Asked) (before after : ShelfState) (result : Status) (old new : SinkState) → Outcome asked before after result old new
+pub is_out_fault : (asked : Asked) (before after : ShelfState) (result : Status) (old new : SinkState) → Outcome asked before after result old new
     → result ≡ answers.OutFault → IsOutFault asked before after old new
 is_out_fault asked before after result old new (answered status answer put) is = put_fault asked before after status result old new answer put is
 is_out_fault asked before after result old new (gave_up same kept) is = absurd cc
@@ -240,67 +204,141 @@ unless_put status wanted result old new (whole same put) is = so (same ∙ is)
 unless_put status wanted result old new (failed same rises taken) is = not_put same
 unless_put status wanted result old new (out_of_memory same kept) is = no_memory same
 
--- the outside's own answers, as they were put
-unless_fetched : (wanted result : Status) → UnlessNotPut (answers.FetchFault 3) result → UnlessOutside wanted result
-unless_fetched wanted result (so is) = not_fetched is
-unless_fetched wanted result (not_put is) = put_so (not_put is)
-unless_fetched wanted result (no_memory is) = put_so (no_memory is)
+-- where each answer is this one, it is told
+pub is_told : (asked : Asked) (before after : ShelfState) (result wanted : Status) (old new : SinkState) → Outcome asked before after result old new
+    → ((status : Status) → IsAnswer asked before after status → status ≡ wanted) → UnlessNotPut wanted result
+is_told asked before after result wanted old new (answered status answer put) each = unless_put status wanted result old new put (each status answer)
+is_told asked before after result wanted old new (gave_up is kept) each = no_memory is
 
-unless_short : (wanted result : Status) → UnlessNotPut (answers.TooLong 3) result → UnlessOutside wanted result
-unless_short wanted result (so is) = not_short is
-unless_short wanted result (not_put is) = put_so (not_put is)
-unless_short wanted result (no_memory is) = put_so (no_memory is)
+-- this answer, or one of the shelf's
+data Same (wanted status : Status) : Type 0 where
+  same : status ≡ wanted → Same wanted status
+  fetch : (word : ℕ) → status ≡ answers.FetchFault word → Same wanted status
+  long : (word : ℕ) → status ≡ answers.TooLong word → Same wanted status
 
-same_asked : (asked : Option Asked) (one other : Asked) → asked ≡ Some one → asked ≡ Some other → one ≡ other
-same_asked asked one other a b = cc
+unless_same : (status wanted result : Status) (old new : SinkState) → WasPut status result old new → Same wanted status → UnlessOutside wanted result
+unless_same status wanted result old new put (same is) = put_so (unless_put status wanted result old new put is)
+unless_same status wanted result old new (whole e put) (fetch word is) = not_fetched word (e ∙ is)
+unless_same status wanted result old new (failed e rises taken) (fetch word is) = put_so (not_put e)
+unless_same status wanted result old new (out_of_memory e kept) (fetch word is) = put_so (no_memory e)
+unless_same status wanted result old new (whole e put) (long word is) = not_short word (e ∙ is)
+unless_same status wanted result old new (failed e rises taken) (long word is) = put_so (not_put e)
+unless_same status wanted result old new (out_of_memory e kept) (long word is) = put_so (no_memory e)
 
--- the bytes that the shelf tells are those that it gave
-told_bytes : (before : ShelfState) (path other told given : List ℕ) → Tells before path told → other ≡ path → Holds before.files other given → given ≡ told
-told_bytes before path other told given tells same held =
-    let files = rw tells.told at held in
-    let here = rw same at files in cc tells.held
+unless_outside : (asked : Asked) (before after : ShelfState) (result wanted : Status) (old new : SinkState) → Outcome asked before after result old new
+    → ((status : Status) → IsAnswer asked before after status → Same wanted status) → UnlessOutside wanted result
+unless_outside asked before after result wanted old new (answered status answer put) each = unless_same status wanted result old new put (each status answer)
+unless_outside asked before after result wanted old new (gave_up is kept) each = put_so (no_memory is)
 
--- what is answered on bytes that the shelf tells
-on_told : (asked : Option Asked) (before after : ShelfState) (request : Asked) (bytes : List ℕ) (wanted status result : Status) (old new : SinkState)
-    → asked ≡ Some request → Tells before request.path bytes
-    → ((read : Class) → IsClassFile bytes read → answer_for request.target read ≡ wanted) → (IsNoClass bytes → answers.NotYet 3 ≡ wanted)
-    → IsAnswer asked before after status → WasPut status result old new → UnlessOutside wanted result
-on_told asked before after request bytes wanted status result old new a tells on_read on_none (no_request not is) put = absurd cc
-on_told asked before after request bytes wanted status result old new a tells on_read on_none (fault other b blames is) put =
-    unless_fetched wanted result (unless_put status (answers.FetchFault 3) result old new put is)
-on_told asked before after request bytes wanted status result old new a tells on_read on_none (too_long other b blames longer is) put =
-    unless_short wanted result (unless_put status (answers.TooLong 3) result old new put is)
-on_told asked before after request bytes wanted status result old new a tells on_read on_none (no_class other given b held not is) put =
-    let same = same_asked asked other request b a in
-    let given_is = told_bytes before request.path other.path bytes given tells (ap (λ (r : Asked). r.path) same) held in
-    put_so (unless_put status wanted result old new put (is ∙ on_none (subst IsNoClass given_is not)))
-on_told asked before after request bytes wanted status result old new a tells on_read on_none (on_class other given read b held file is) put =
-    let same = same_asked asked other request b a in
-    let given_is = told_bytes before request.path other.path bytes given tells (ap (λ (r : Asked). r.path) same) held in
-    let target_is : other.target ≡ request.target = ap (λ (r : Asked). r.target) same in
-    put_so (unless_put status wanted result old new put
-    (is ∙ ap (λ (t : Target). answer_for t read) target_is ∙ on_read read (subst (λ (b : List ℕ). IsClassFile b read) given_is file)))
+same_request : (asked : Asked) (one other : Request) → asked ≡ Ok one → asked ≡ Ok other → other ≡ one
+same_request asked one other a b = cc
 
-on_outcome : (asked : Option Asked) (before after : ShelfState) (request : Asked) (bytes : List ℕ) (wanted result : Status) (old new : SinkState)
-    → asked ≡ Some request → Tells before request.path bytes
-    → ((read : Class) → IsClassFile bytes read → answer_for request.target read ≡ wanted) → (IsNoClass bytes → answers.NotYet 3 ≡ wanted)
-    → Outcome asked before after result old new → UnlessOutside wanted result
-on_outcome asked before after request bytes wanted result old new a tells on_read on_none (answered status answer put) =
-    on_told asked before after request bytes wanted status result old new a tells on_read on_none answer put
-on_outcome asked before after request bytes wanted result old new a tells on_read on_none (gave_up is kept) = put_so (no_memory is)
+-- words that are refused
+pub refused_so : (asked : Asked) (before after : ShelfState) (wanted status : Status) → asked ≡ Err wanted → IsAnswer asked before after status → status ≡ wanted
+refused_so asked before after wanted status a (usage index b is) = cc
+refused_so asked before after wanted status a (later word b is) = cc
+refused_so asked before after wanted status a (many request b more is) = absurd cc
+refused_so asked before after wanted status a (fault request word b within at is) = absurd cc
+refused_so asked before after wanted status a (overlong request word b within at is) = absurd cc
+refused_so asked before after wanted status a (too_big request b within big is) = absurd cc
+refused_so asked before after wanted status a (on_files request fs b within held hold fits on) = absurd cc
 
--- bytes are written as one class at most
-pub is_answered : (asked : Option Asked) (before after : ShelfState) (result : Status) (old new : SinkState) → Outcome asked before after result old new
-    → ((bytes : List ℕ) (one other : Class) → IsClassFile bytes one → IsClassFile bytes other → one ≡ other)
-    → (request : Asked) (bytes : List ℕ) (read : Class) → asked ≡ Some request → Tells before request.path bytes → IsClassFile bytes read
-    → UnlessOutside (answer_for request.target read) result
-is_answered asked before after result old new outcome unique request bytes read a tells file =
-    on_outcome asked before after request bytes (answer_for request.target read) result old new a tells
-    (λ other is. ap (answer_for request.target) (unique bytes other read is file)) (λ not. absurd (not read file)) outcome
+still_within : (asked : Asked) (one other : Request) → asked ≡ Ok one → asked ≡ Ok other → length other.files ≤ most_files → length one.files ≤ most_files
+still_within asked one other a b within = subst (λ (r : Request). length r.files ≤ most_files) (same_request asked one other a b) within
 
-pub is_unread : (asked : Option Asked) (before after : ShelfState) (result : Status) (old new : SinkState) → Outcome asked before after result old new
-    → (request : Asked) (bytes : List ℕ) → asked ≡ Some request → Tells before request.path bytes → IsNoClass bytes
-    → UnlessOutside (answers.NotYet 3) result
-is_unread asked before after result old new outcome request bytes a tells not =
-    on_outcome asked before after request bytes (answers.NotYet 3) result old new a tells
-    (λ other is. absurd (not other is)) (λ none. refl) outcome
+-- too many files are named
+pub many_so : (asked : Asked) (before after : ShelfState) (request : Request) (status : Status) → asked ≡ Ok request → most_files < length request.files
+    → IsAnswer asked before after status → status ≡ answers.Limit Files most_files
+many_so asked before after request status a more (usage index b is) = absurd cc
+many_so asked before after request status a more (later word b is) = absurd cc
+many_so asked before after request status a more (many other b again is) = is
+many_so asked before after request status a more (fault other word b within at is) = let few = still_within asked request other a b within in absurd (omega arith)
+many_so asked before after request status a more (overlong other word b within at is) = let few = still_within asked request other a b within in absurd (omega arith)
+many_so asked before after request status a more (too_big other b within big is) = let few = still_within asked request other a b within in absurd (omega arith)
+many_so asked before after request status a more (on_files other fs b within held hold fits on) = let few = still_within asked request other a b within in absurd (omega arith)
+
+-- the files are told: what the answer on them is, and what it is where they are too big
+on_told : (asked : Asked) (before after : ShelfState) (request : Request) (wanted status : Status) → asked ≡ Ok request → length request.files ≤ most_files
+    → (IsTooBig before request.files → Same wanted (answers.Limit Bytes most_bytes))
+    → ((fs : List File) → HoldsAll before.files request.files fs → HoldBytes fs → total fs ≤ most_bytes → OnFiles request.target fs status → status ≡ wanted)
+    → IsAnswer asked before after status → Same wanted status
+on_told asked before after request wanted status a few on_big on_read (usage index b is) = absurd cc
+on_told asked before after request wanted status a few on_big on_read (later word b is) = absurd cc
+on_told asked before after request wanted status a few on_big on_read (many other b more is) =
+    let one = same_request asked request other a b in
+    let again : most_files < length request.files = subst (λ (r : Request). most_files < length r.files) one more in
+    absurd (omega arith)
+on_told asked before after request wanted status a few on_big on_read (fault other word b within at is) = fetch word is
+on_told asked before after request wanted status a few on_big on_read (overlong other word b within at is) = long word is
+on_told asked before after request wanted status a few on_big on_read (too_big other b within big is) =
+    let one = same_request asked request other a b in
+    subst (λ (s : Status). Same wanted s) (sym is) (on_big (subst (λ (r : Request). IsTooBig before r.files) one big))
+on_told asked before after request wanted status a few on_big on_read (on_files other fs b within held hold fits on) =
+    let one = same_request asked request other a b in
+    same (on_read fs (subst (λ (r : Request). HoldsAll before.files r.files fs) one held) hold fits (subst (λ (r : Request). OnFiles r.target fs status) one on))
+
+pub too_big_so : (asked : Asked) (before after : ShelfState) (result : Status) (old new : SinkState) → Outcome asked before after result old new
+    → (request : Request) → asked ≡ Ok request → length request.files ≤ most_files → Tells before → IsTooBig before (paths_of request)
+    → UnlessOutside (answers.Limit Bytes most_bytes) result
+too_big_so asked before after result old new outcome request a few tells big =
+    unless_outside asked before after result (answers.Limit Bytes most_bytes) old new outcome
+    (λ status answer. on_told asked before after request (answers.Limit Bytes most_bytes) status a few (λ is. same refl)
+    (λ gs held hold fits on. absurd (not_too_big before request.files gs tells held fits big)) answer)
+
+read_so : (target : Target) (fs : List File) (classes : List ClassRecord) (wanted status : Status) → Decided → HoldBytes fs → AreClasses fs classes
+    → (OnClasses target classes status → status ≡ wanted) → OnFiles target fs status → status ≡ wanted
+read_so target fs classes wanted status decided hold are each (read cs others on) =
+    each (subst (λ (ds : List ClassRecord). OnClasses target ds status) (same_classes fs cs classes decided hold others are) on)
+read_so target fs classes wanted status decided hold are each (bad word offset kind is_bad is) =
+    absurd (no_bad_class fs classes word offset kind decided hold are is_bad)
+
+world_so : (target : Target) (classes : List ClassRecord) (status : Status) → IsWellBuilt (world_of classes) → OnClasses target classes status
+    → status ≡ answer_on target (world_of classes)
+world_so target classes status built (world again is) = is
+world_so target classes status built (no_world why is_fault is) = absurd (no_fault (world_of classes) why is_fault built)
+
+fault_so : (target : Target) (classes : List ClassRecord) (why : WorldFault) (status : Status) → IsFault (world_of classes) why → OnClasses target classes status
+    → status ≡ answers.BadWorld why
+fault_so target classes why status is_fault (world built is) = absurd (no_fault (world_of classes) why is_fault built)
+fault_so target classes why status is_fault (no_world other again is) = is ∙ ap answers.BadWorld (same_fault (world_of classes) why other is_fault again)
+
+bad_so : (target : Target) (fs : List File) (word offset : ℕ) (kind : FaultKind) (status : Status) → Decided → HoldBytes fs → IsBadClass fs word offset kind
+    → OnFiles target fs status → status ≡ answers.BadClass word offset kind
+bad_so target fs word offset kind status decided hold u (read cs are on) = absurd (no_bad_class fs cs word offset kind decided hold are u)
+bad_so target fs word offset kind status decided hold u (bad other offset' kind' v is) = is ∙ same_bad_class fs word other offset offset' kind kind' decided hold u v
+
+-- the files are few bytes, and told
+on_fit : (asked : Asked) (before after : ShelfState) (result wanted : Status) (old new : SinkState) → Outcome asked before after result old new
+    → (target : Target) (fs : List File) → AsksFor asked before target fs
+    → ((status : Status) → HoldBytes fs → OnFiles target fs status → status ≡ wanted) → UnlessOutside wanted result
+on_fit asked before after result wanted old new outcome target fs asks each =
+    unless_outside asked before after result wanted old new outcome
+    (λ status answer. on_told asked before after asks.request wanted status asks.is_asked asks.few
+    (λ big. absurd (not_too_big before asks.request.files fs asks.tells asks.held asks.fits big))
+    (λ gs held hold less on.
+    let one = same_files before asks.request.files fs gs asks.tells asks.held held in
+    let there : OnFiles asks.request.target fs status = subst (λ (hs : List File). OnFiles asks.request.target hs status) one on in
+    each status (subst HoldBytes one hold) (subst (λ (t : Target). OnFiles t fs status) asks.is_target there))
+    answer)
+
+pub is_answered : (asked : Asked) (before after : ShelfState) (result : Status) (old new : SinkState) → Outcome asked before after result old new → Decided
+    → (target : Target) (fs : List File) (classes : List ClassRecord) → AsksFor asked before target fs → AreClasses fs classes → IsWellBuilt (world_of classes)
+    → UnlessOutside (answer_on target (world_of classes)) result
+is_answered asked before after result old new outcome decided target fs classes asks are built =
+    let wanted = answer_on target (world_of classes) in
+    on_fit asked before after result wanted old new outcome target fs asks
+    (λ status hold on. read_so target fs classes wanted status decided hold are (world_so target classes status built) on)
+
+pub has_fault : (asked : Asked) (before after : ShelfState) (result : Status) (old new : SinkState) → Outcome asked before after result old new → Decided
+    → (target : Target) (fs : List File) (classes : List ClassRecord) (why : WorldFault) → AsksFor asked before target fs → AreClasses fs classes
+    → IsFault (world_of classes) why → UnlessOutside (answers.BadWorld why) result
+has_fault asked before after result old new outcome decided target fs classes why asks are is_fault =
+    on_fit asked before after result (answers.BadWorld why) old new outcome target fs asks
+    (λ status hold on. read_so target fs classes (answers.BadWorld why) status decided hold are (fault_so target classes why status is_fault) on)
+
+pub is_unread : (asked : Asked) (before after : ShelfState) (result : Status) (old new : SinkState) → Outcome asked before after result old new → Decided
+    → (target : Target) (fs : List File) (word offset : ℕ) (kind : FaultKind) → AsksFor asked before target fs → IsBadClass fs word offset kind
+    → UnlessOutside (answers.BadClass word offset kind) result
+is_unread asked before after result old new outcome decided target fs word offset kind asks u =
+    on_fit asked before after result (answers.BadClass word offset kind) old new outcome target fs asks
+    (λ status hold on. bad_so target fs word offset kind status decided hold u on)

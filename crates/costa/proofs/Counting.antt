@@ -1,14 +1,13 @@
 -- Counting the instructions of code, one after another.
-use Rattle.std.proofs.Common.{◌≡◌, ℕ, zero, suc, ◌+◌, ◌-◌, ◌<◌, ◌≤◌, Bool, true, false, List, length, Option, Some, None, refl, sym, ◌∙◌, ap, arith, add-zero}
-use Rattle.std.specs.Prelude.{nat_lt, if◌then◌else◌}
+use Rattle.std.proofs.Common.{◌≡◌, ℕ, zero, suc, ◌+◌, ◌-◌, ◌<◌, ◌≤◌, true, false, List, length, Option, Some, None, refl, sym, ◌∙◌, ap, arith}
+use Rattle.std.specs.Prelude.{nat_lt}
 use Rattle.std.proofs.lemmas.Bool.{lt-ltb, le-ltb}
-use Rattle.op_table.specs.declared.construct.Construct.{Construct}
 use Rattle.op_table.specs.declared.construct.Construct.TheVariants.{Later, FallsOff}
 use Rattle.op_table.specs.declared.action.Instruction.{Instruction}
 use Rattle.op_table.specs.Instructions.{instruction_at, is_return}
 use Rattle.costa.specs.declared.verdict.Verdict.{Verdict}
 use Rattle.costa.specs.declared.verdict.Verdict.TheVariants.{Counts, Stands}
-use Rattle.costa.specs.Answer.{one_more, at_end, inside, verdict_at, verdict_from, verdict_of}
+use Rattle.costa.specs.Answer.{one_more, verdict_at, verdict_from, verdict_of}
 
 -- the verdict where so many instructions stand before
 abbrev pub counted : ℕ → Verdict → Verdict

@@ -1,20 +1,24 @@
--- What an answer on a class says of it.
-use Rattle.std.proofs.Common.{◌≡◌, ◌≢◌, ◌⊎◌, inl, inr, ℕ, zero, suc, Bool, true, false, ◌&&◌, List, [], ◌∷◌, Option, Some, None, refl, sym, ◌∙◌, ap, subst, arith}
+-- What an answer on a class of the name says of it.
+use Rattle.std.proofs.Common.{◌≡◌, ℕ, zero, suc, Bool, true, false, ◌&&◌, List, [], ◌∷◌, Option, Some, None, refl, sym, ◌∙◌, ap}
 use Rattle.std.specs.Prelude.{slice_get, find, if◌then◌else◌}
 use Rattle.std.specs.Str.{bytes_eq}
 use Rattle.std.proofs.lemmas.Slice.Eq.{bytes_eq-Decides}
 use Rattle.class_pool.specs.declared.target.Target.{Target}
-use Rattle.class_reader.specs.declared.class.Class.{Class}
+use Rattle.class_reader.specs.declared.class.ClassRecord.{ClassRecord}
 use Rattle.class_reader.specs.declared.class.Method.{Method}
+use Rattle.class_reader.specs.declared.class.Code.{Code}
+use Rattle.class_reader.specs.declared.class.Handler.{Handler}
 use Rattle.class_reader.specs.Flags.{is_static}
 use Rattle.op_table.specs.declared.construct.Construct.{Construct}
 use Rattle.op_table.specs.declared.construct.Construct.TheVariants.{Later}
+use Rattle.op_table.specs.declared.construct.Construct.TheVariants as against
 use Rattle.costa.specs.declared.status.Status.{Status}
 use Rattle.costa.specs.declared.status.Status.TheVariants as answers
 use Rattle.costa.specs.declared.verdict.Verdict.{Verdict}
 use Rattle.costa.specs.declared.verdict.Verdict.TheVariants.{Counts, Stands}
-use Rattle.costa.specs.Answer.{verdict_of, is_named, method_of, answer_by, answer_at, answer_for}
-use Rattle.costa.specs.Headline.{Declares, StandsAgainst}
+use Rattle.costa.specs.Answer.{verdict_of, is_named, answer_by, answer_past, answer_with, answer_at, answer_for}
+use Rattle.costa.specs.Headline.{Declares}
+use Rattle.costa.specs.Causes.{StandsAgainst, handles, not_static, stands}
 
 -- a value stands at a place of a list, and passes the test
 abbrev PassesAt : {A : Type 0} → (A → Bool) → List A → A → Type 0
@@ -62,27 +66,47 @@ is_name target method name desc =
     rw (a, b) refl
 
 -- what the answer on a class rests on
-pub data Rests (target : Target) (class : Class) (status : Status) : Type 0 where
-  bounds : (place : ℕ) (method : Method) (count : ℕ) → Declares class target place method → is_static method.flags ≡ true
-      → verdict_of method.code.bytes ≡ Counts count → status ≡ answers.Bound count → Rests target class status
+pub data Rests (target : Target) (class : ClassRecord) (status : Status) : Type 0 where
+  bounds : (place : ℕ) (method : Method) (code : Code) (count : ℕ) → Declares class target place method → method.code ≡ Some code
+      → code.handlers ≡ [] → is_static method.flags ≡ true → verdict_of code.bytes ≡ Counts count → status ≡ answers.Bound count → Rests target class status
   lacks : ((place : ℕ) (method : Method) → Declares class target place method → ⊥) → status ≡ answers.NoMethod target → Rests target class status
-  refuses : (place : ℕ) (method : Method) (pc : ℕ) (construct : Construct) → Declares class target place method
-      → StandsAgainst method pc construct → status ≡ answers.Unsupported target pc construct → Rests target class status
+  empty : (place : ℕ) (method : Method) → Declares class target place method → method.code ≡ None → status ≡ answers.NoMethod target → Rests target class status
+  refuses : (place : ℕ) (method : Method) (code : Code) (pc : ℕ) (construct : Construct) → Declares class target place method → method.code ≡ Some code
+      → StandsAgainst method code pc construct → status ≡ answers.Unsupported target pc construct → Rests target class status
 
-rests_verdict : (target : Target) (class : Class) (status : Status) (place : ℕ) (method : Method) → Declares class target place method
-    → is_static method.flags ≡ true → (v : Verdict) → verdict_of method.code.bytes ≡ v → status ≡ answer_by target v → Rests target class status
-rests_verdict target class status place method declared static (Counts n) counts is = bounds place method n declared static counts is
-rests_verdict target class status place method declared static (Stands pc construct) stands is =
-    refuses place method pc construct declared (inr (static, stands)) is
-
-rests_static : (target : Target) (class : Class) (status : Status) (place : ℕ) (method : Method) (static : Bool) → Declares class target place method
-    → is_static method.flags ≡ static → status ≡ (if static then answer_by target (verdict_of method.code.bytes) else answers.Unsupported target 0 Later)
+rests_verdict : (target : Target) (class : ClassRecord) (status : Status) (place : ℕ) (method : Method) (code : Code) → Declares class target place method
+    → method.code ≡ Some code → code.handlers ≡ [] → is_static method.flags ≡ true → (v : Verdict) → verdict_of code.bytes ≡ v → status ≡ answer_by target v
     → Rests target class status
-rests_static target class status place method true declared is e =
-    rests_verdict target class status place method declared is (verdict_of method.code.bytes) refl e
-rests_static target class status place method false declared is e = refuses place method 0 Later declared (inl (is, refl, refl)) e
+rests_verdict target class status place method code declared has none static (Counts n) counts is = bounds place method code n declared has none static counts is
+rests_verdict target class status place method code declared has none static (Stands pc construct) found is =
+    refuses place method code pc construct declared has (stands none static found) is
 
-rests_method : (target : Target) (class : Class) (status : Status) (found : Option Method) → class.name ≡ target.class → find (is_named target) class.methods ≡ found
+rests_static : (target : Target) (class : ClassRecord) (status : Status) (place : ℕ) (method : Method) (code : Code) (static : Bool) → Declares class target place method
+    → method.code ≡ Some code → code.handlers ≡ [] → is_static method.flags ≡ static
+    → status ≡ (if static then answer_by target (verdict_of code.bytes) else answers.Unsupported target 0 Later) → Rests target class status
+rests_static target class status place method code true declared has none is e =
+    rests_verdict target class status place method code declared has none is (verdict_of code.bytes) refl e
+rests_static target class status place method code false declared has none is e =
+    refuses place method code 0 Later declared has (not_static none is refl refl) e
+
+some_handlers : (handlers others : List Handler) (handler : Handler) → handlers ≡ handler ∷ others → handlers ≡ [] → ⊥
+some_handlers handlers others handler some none = absurd cc
+
+rests_handlers : (target : Target) (class : ClassRecord) (status : Status) (place : ℕ) (method : Method) (code : Code) (handlers : List Handler)
+    → Declares class target place method → method.code ≡ Some code → code.handlers ≡ handlers → status ≡ answer_past target method.flags handlers code.bytes
+    → Rests target class status
+rests_handlers target class status place method code [] declared has none e =
+    rests_static target class status place method code (is_static method.flags) declared has none refl e
+rests_handlers target class status place method code (handler ∷ handlers) declared has some e =
+    refuses place method code 0 against.Handler declared has (handles (some_handlers code.handlers handlers handler some) refl refl) e
+
+rests_code : (target : Target) (class : ClassRecord) (status : Status) (place : ℕ) (method : Method) (found : Option Code) → Declares class target place method
+    → method.code ≡ found → status ≡ answer_with target method.flags found → Rests target class status
+rests_code target class status place method None declared none e = empty place method declared none e
+rests_code target class status place method (Some code) declared has e =
+    rests_handlers target class status place method code code.handlers declared has refl e
+
+rests_method : (target : Target) (class : ClassRecord) (status : Status) (found : Option Method) → class.name ≡ target.class → find (is_named target) class.methods ≡ found
     → status ≡ answer_at target found → Rests target class status
 rests_method target class status None same is e =
     lacks (λ place method d.
@@ -91,16 +115,9 @@ rests_method target class status None same is e =
 rests_method target class status (Some method) same is e =
     let found = found_at (is_named target) class.methods method is in
     let names = named target method found.2 in
-    rests_static target class status found.0 method (is_static method.flags)
+    rests_code target class status found.0 method method.code
     (record { in_class = same; stands = found.1; name = names.0; desc = names.1 }) refl e
 
-rests_class : (target : Target) (class : Class) (status : Status) (same : Bool) → bytes_eq class.name target.class ≡ same
-    → status ≡ answer_at target (if same then find (is_named target) class.methods else None) → Rests target class status
-rests_class target class status true is e =
-    rests_method target class status (find (is_named target) class.methods) ((bytes_eq-Decides class.name target.class).0 is) refl e
-rests_class target class status false is e =
-    lacks (λ place method d. let same = (bytes_eq-Decides class.name target.class).1 d.in_class in absurd cc) e
-
-pub rests : (target : Target) (class : Class) (status : Status) → status ≡ answer_for target class → Rests target class status
+pub rests : (target : Target) (class : ClassRecord) (status : Status) → class.name ≡ target.class → status ≡ answer_for target class → Rests target class status
 unfolding answer_for
-rests target class status e = rests_class target class status (bytes_eq class.name target.class) refl e
+rests target class status same e = rests_method target class status (find (is_named target) class.methods) same refl e

@@ -1,5 +1,8 @@
 pub mod Straight
 pub mod Found
 pub mod Counting
+pub mod FetchedFiles
+pub mod Told
+pub mod Worlds
+pub mod Answering
 pub mod Causes
-pub mod WordLemmas

@@ -1,17 +1,17 @@
 -- Code that runs straight on spends at most the number of its instructions.
-use Rattle.std.proofs.Common.{◌≡◌, ◌≢◌, ℕ, zero, suc, ◌+◌, ◌<◌, ◌≤◌, Bool, true, false, List, [], ◌∷◌, length, Option, Some, None, refl, sym, ◌∙◌, ap, subst, arith}
+use Rattle.std.proofs.Common.{◌≡◌, ◌≢◌, ℕ, zero, suc, ◌+◌, ◌<◌, ◌≤◌, Bool, true, false, List, [], ◌∷◌, length, Some, refl, sym, ◌∙◌, ap, subst, arith}
 use Rattle.std.specs.Prelude.{slice_get, nat_lt, if◌then◌else◌}
-use Rattle.std.proofs.lemmas.Bool.{ltb-true, ltb-false, lt-ltb}
-use Rattle.class_reader.specs.declared.class.Class.{Class}
+use Rattle.std.proofs.lemmas.Bool.{lt-ltb}
+use Rattle.class_reader.specs.declared.class.ClassRecord.{ClassRecord}
 use Rattle.class_reader.specs.declared.class.Method.{Method}
+use Rattle.class_reader.specs.declared.class.Code.{Code}
 use Rattle.op_table.specs.declared.action.Instruction.{Instruction}
 use Rattle.op_table.specs.Instructions.{instruction_at, is_return}
-use Rattle.machine.specs.declared.state.Status.{Status}
 use Rattle.machine.specs.declared.state.Status.TheVariants as statuses
 use Rattle.machine.specs.declared.state.State.{State}
 use Rattle.machine.specs.Step.{Step, instruction_cost}
 use Rattle.machine.specs.Row.{Row, goes, leaves, stops}
-use Rattle.machine.specs.Run.{IsEntry, IsRun, Continues, IsUnwrapped, CostsAtMost}
+use Rattle.machine.specs.Run.{IsEntry, IsRun, Continues, CostsAtMost}
 use Rattle.machine.proofs.Rows.{step_is_row}
 use Rattle.costa.specs.declared.verdict.Verdict.{Verdict}
 use Rattle.costa.specs.declared.verdict.Verdict.TheVariants.{Counts, Stands}
@@ -51,70 +51,86 @@ count_last (suc most) code pc k i at returns e =
 -- ---- what holds at each moment
 
 -- while the method runs, what is spent and what is left make the bound; then no more is spent
-data Within (place : ℕ) (method : Method) (bound : ℕ) (now : State) : Type 0 where
-  runs : (most left : ℕ) → now.frame.method ≡ place → verdict_from most method.code.bytes now.frame.pc ≡ Counts left
-      → now.spent + left ≡ bound → Within place method bound now
-  done : now.spent ≤ bound → now.status ≢ statuses.Running → Within place method bound now
+data Within (place : ℕ) (code : Code) (bound : ℕ) (now : State) : Type 0 where
+  runs : (most left : ℕ) → now.frame.method ≡ place → verdict_from most code.bytes now.frame.pc ≡ Counts left
+      → now.spent + left ≡ bound → Within place code bound now
+  done : now.spent ≤ bound → now.status ≢ statuses.Running → Within place code bound now
 
-within_bound : (place : ℕ) (method : Method) (bound : ℕ) (now : State) → Within place method bound now → now.spent ≤ bound
-within_bound place method bound now (runs most left here counts spent) = omega arith
-within_bound place method bound now (done spent stands) = spent
+within_bound : (place : ℕ) (code : Code) (bound : ℕ) (now : State) → Within place code bound now → now.spent ≤ bound
+within_bound place code bound now (runs most left here counts spent) = omega arith
+within_bound place code bound now (done spent stands) = spent
 
-same_method : (class : Class) (place other : ℕ) (method found : Method) → slice_get class.methods place ≡ Some method
+-- the code of the method at this place
+pub record CodeAt (class : ClassRecord) (place : ℕ) (code : Code) : Type 0 where
+  pub method : Method
+  pub declared : slice_get class.methods place ≡ Some method
+  pub has_code : method.code ≡ Some code
+
+same_method : (class : ClassRecord) (place other : ℕ) (method found : Method) → slice_get class.methods place ≡ Some method
     → other ≡ place → slice_get class.methods other ≡ Some found → found ≡ method
 same_method class place other method found declared here at = cc (ap (slice_get class.methods) here)
 
+some_code : (code found : Code) → Some found ≡ Some code → found ≡ code
+some_code code found e = cc
+
+same_code : (class : ClassRecord) (place other : ℕ) (code found : Code) (method : Method) → CodeAt class place code → other ≡ place
+    → slice_get class.methods other ≡ Some method → method.code ≡ Some found → found ≡ code
+same_code class place other code found method known here at has =
+    let is = same_method class place other known.method method known.declared here at in
+    some_code code found (sym has ∙ ap (λ (m : Method). m.code) is ∙ known.has_code)
+
 -- a step from a configuration that runs
-row_within : (class : Class) (place : ℕ) (method : Method) (bound : ℕ) (before now : State) → slice_get class.methods place ≡ Some method
-    → (most left : ℕ) → before.frame.method ≡ place → verdict_from most method.code.bytes before.frame.pc ≡ Counts left
-    → before.spent + left ≡ bound → Row instruction_cost class before now → Within place method bound now
-row_within class place method bound before now declared most left here counts spent (goes found i at stands on same next inside more running) =
-    let is = same_method class place before.frame.method method found declared here at in
-    let at_code : instruction_at method.code.bytes before.frame.pc ≡ Some i = ap (λ (m : Method). instruction_at m.code.bytes before.frame.pc) (sym is) ∙ stands in
-    let long : now.frame.pc < length method.code.bytes = let e = ap (λ (m : Method). length m.code.bytes) is in omega arith in
-    let fewer = count_on most method.code.bytes before.frame.pc left i at_code on (omega arith) counts in
-    runs fewer.0 fewer.1 (same ∙ here) (ap (verdict_from fewer.0 method.code.bytes) next ∙ fewer.2) (omega (arith, fewer.3))
-row_within class place method bound before now declared most left here counts spent (leaves found i at stands returns more ended) =
-    let is = same_method class place before.frame.method method found declared here at in
-    let at_code : instruction_at method.code.bytes before.frame.pc ≡ Some i = ap (λ (m : Method). instruction_at m.code.bytes before.frame.pc) (sym is) ∙ stands in
-    let last = count_last most method.code.bytes before.frame.pc left i at_code returns counts in
+row_within : (class : ClassRecord) (place : ℕ) (code : Code) (bound : ℕ) (before now : State) → CodeAt class place code
+    → (most left : ℕ) → before.frame.method ≡ place → verdict_from most code.bytes before.frame.pc ≡ Counts left
+    → before.spent + left ≡ bound → Row instruction_cost class before now → Within place code bound now
+row_within class place code bound before now known most left here counts spent (goes found other i at has stands on same next inside more running) =
+    let is = same_code class place before.frame.method code other found known here at has in
+    let at_code : instruction_at code.bytes before.frame.pc ≡ Some i = ap (λ (c : Code). instruction_at c.bytes before.frame.pc) (sym is) ∙ stands in
+    let long : now.frame.pc < length code.bytes = let e = ap (λ (c : Code). length c.bytes) is in omega arith in
+    let fewer = count_on most code.bytes before.frame.pc left i at_code on (omega arith) counts in
+    runs fewer.0 fewer.1 (same ∙ here) (ap (verdict_from fewer.0 code.bytes) next ∙ fewer.2) (omega (arith, fewer.3))
+row_within class place code bound before now known most left here counts spent (leaves found other i at has stands returns more ended) =
+    let is = same_code class place before.frame.method code other found known here at has in
+    let at_code : instruction_at code.bytes before.frame.pc ≡ Some i = ap (λ (c : Code). instruction_at c.bytes before.frame.pc) (sym is) ∙ stands in
+    let last = count_last most code.bytes before.frame.pc left i at_code returns counts in
     done (omega arith) (λ e. cc)
-row_within class place method bound before now declared most left here counts spent (stops k same stopped) = done (omega arith) (λ e. cc)
+row_within class place code bound before now known most left here counts spent (stops k same stopped) = done (omega arith) (λ e. cc)
 
-step_within : (class : Class) (place : ℕ) (method : Method) (bound : ℕ) (before now : State) → slice_get class.methods place ≡ Some method
-    → Within place method bound before → Step instruction_cost class before now → Within place method bound now
-step_within class place method bound before now declared (runs most left here counts spent) s =
-    row_within class place method bound before now declared most left here counts spent (step_is_row instruction_cost class before now s)
-step_within class place method bound before now declared (done spent stands) s = absurd (stands s.runs)
+step_within : (class : ClassRecord) (place : ℕ) (code : Code) (bound : ℕ) (before now : State) → CodeAt class place code
+    → Within place code bound before → Step instruction_cost class before now → Within place code bound now
+step_within class place code bound before now known (runs most left here counts spent) s =
+    row_within class place code bound before now known most left here counts spent (step_is_row instruction_cost class before now s)
+step_within class place code bound before now known (done spent stands) s = absurd (stands s.runs)
 
-run_within : (class : Class) (place : ℕ) (method : Method) (bound : ℕ) (first : State) (later : List State) → slice_get class.methods place ≡ Some method
-    → Within place method bound first → Continues instruction_cost class first later
-    → (moment : ℕ) (now : State) → slice_get (first ∷ later) moment ≡ Some now → Within place method bound now
-run_within class place method bound first later declared here goes_on zero now at =
-    let same : first ≡ now = cc in subst (λ (s : State). Within place method bound s) same here
-run_within class place method bound first [] declared here goes_on (suc moment) now at = absurd cc
-run_within class place method bound first (next ∷ later) declared here goes_on (suc moment) now at =
-    run_within class place method bound next later declared (step_within class place method bound first next declared here goes_on.0) goes_on.1 moment now at
+run_within : (class : ClassRecord) (place : ℕ) (code : Code) (bound : ℕ) (first : State) (later : List State) → CodeAt class place code
+    → Within place code bound first → Continues instruction_cost class first later
+    → (moment : ℕ) (now : State) → slice_get (first ∷ later) moment ≡ Some now → Within place code bound now
+run_within class place code bound first later known here goes_on zero now at =
+    let same : first ≡ now = cc in subst (λ (s : State). Within place code bound s) same here
+run_within class place code bound first [] known here goes_on (suc moment) now at = absurd cc
+run_within class place code bound first (next ∷ later) known here goes_on (suc moment) now at =
+    run_within class place code bound next later known (step_within class place code bound first next known here goes_on.0) goes_on.1 moment now at
 
-entry_within : (class : Class) (place : ℕ) (method : Method) (bound : ℕ) (first : State) → verdict_of method.code.bytes ≡ Counts bound
-    → IsEntry class place first → Within place method bound first
-entry_within class place method bound first counts entry =
+entry_within : (class : ClassRecord) (place : ℕ) (code : Code) (bound : ℕ) (first : State) → verdict_of code.bytes ≡ Counts bound
+    → IsEntry class place first → Within place code bound first
+entry_within class place code bound first counts entry =
     let at : first.frame.pc ≡ 0 = ap (λ (s : State). s.frame.pc) entry.entered in
     let none : first.spent ≡ 0 = ap (λ (s : State). s.spent) entry.entered in
-    runs (length method.code.bytes) bound (ap (λ (s : State). s.frame.method) entry.entered)
-    (ap (verdict_from (length method.code.bytes) method.code.bytes) at ∙ counts) (omega arith)
+    runs (length code.bytes) bound (ap (λ (s : State). s.frame.method) entry.entered)
+    (ap (verdict_from (length code.bytes) code.bytes) at ∙ counts) (omega arith)
 
-spent_within : (class : Class) (place : ℕ) (method : Method) (bound : ℕ) → slice_get class.methods place ≡ Some method
-    → verdict_of method.code.bytes ≡ Counts bound → (run : List State) → IsRun instruction_cost class place run
+spent_within : (class : ClassRecord) (place : ℕ) (code : Code) (bound : ℕ) → CodeAt class place code
+    → verdict_of code.bytes ≡ Counts bound → (run : List State) → IsRun instruction_cost class place run
     → (moment : ℕ) (now : State) → slice_get run moment ≡ Some now → now.spent ≤ bound
-spent_within class place method bound declared counts [] entered moment now at = absurd entered
-spent_within class place method bound declared counts (first ∷ later) entered moment now at =
-    within_bound place method bound now
-    (run_within class place method bound first later declared (entry_within class place method bound first counts entered.0) entered.1 moment now at)
+spent_within class place code bound known counts [] entered moment now at = absurd entered
+spent_within class place code bound known counts (first ∷ later) entered moment now at =
+    within_bound place code bound now
+    (run_within class place code bound first later known (entry_within class place code bound first counts entered.0) entered.1 moment now at)
 
 -- a method whose code counts costs at most so much, at unwrapped moments and at others
-pub straight_costs : (class : Class) (place : ℕ) (method : Method) (bound : ℕ) → slice_get class.methods place ≡ Some method
-    → verdict_of method.code.bytes ≡ Counts bound → CostsAtMost instruction_cost class place bound
-straight_costs class place method bound declared counts = record {
-  spent = λ run entered moment now at unwrapped. spent_within class place method bound declared counts run entered moment now at;
+pub straight_costs : (class : ClassRecord) (place : ℕ) (method : Method) (code : Code) (bound : ℕ) → slice_get class.methods place ≡ Some method
+    → method.code ≡ Some code → verdict_of code.bytes ≡ Counts bound → CostsAtMost instruction_cost class place bound
+straight_costs class place method code bound declared has_code counts = record {
+  spent = λ run entered moment now at unwrapped.
+      spent_within class place code bound (record { method = method; declared = declared; has_code = has_code }) counts run entered moment now at;
 }

@@ -1,34 +1,48 @@
--- The answer to the words: each with its cause.
-use Rattle.std.specs.Prelude.{◌≡◌, ◌⊎◌, ℕ, List, Option, Some, None}
+-- The answer to the words: which there are, and how one is put.
+use Rattle.std.specs.Prelude.{◌≡◌, ◌<◌, ◌≤◌, ℕ, List, length, Result, Ok, Err}
 use Rattle.class_pool.specs.declared.target.Target.{Target}
-use Rattle.class_reader.specs.declared.class.Class.{Class}
-use Rattle.class_reader.specs.ClassFile.{IsClassFile}
+use Rattle.class_reader.specs.declared.class.ClassRecord.{ClassRecord}
+use Rattle.world.specs.declared.fault.WorldFault.{WorldFault}
+use Rattle.world.specs.World.{world_of}
+use Rattle.world.specs.Building.{IsWellBuilt, IsFault}
+use Rattle.ports.specs.Shelf.{ShelfState, Rises}
+use Rattle.ports.specs.Sink.{SinkState, AppendsPrefix, Appends}
+use Rattle.costa.specs.declared.fetching.File.{File}
+use Rattle.costa.specs.declared.status.FaultKind.{FaultKind}
+use Rattle.costa.specs.declared.status.LimitKind.TheVariants.{Files, Bytes}
 use Rattle.costa.specs.declared.status.Status.{Status}
 use Rattle.costa.specs.declared.status.Status.TheVariants as answers
-use Rattle.ports.specs.Shelf.{ShelfState, Blames, Holds, HoldsLonger, Rises}
-use Rattle.ports.specs.Sink.{SinkState, AppendsPrefix, Appends}
-use Rattle.costa.specs.Words.{Asked}
-use Rattle.costa.specs.Answer.{answer_for}
-use Rattle.costa.specs.Headline.{IsNoClass}
+use Rattle.costa.specs.declared.words.Request.{Request}
+use Rattle.costa.specs.Words.{paths_of}
+use Rattle.costa.specs.Files.{HoldBytes, HoldsAll, Tells, IsFailed, IsOverlong, IsTooBig, total, most_files, most_bytes}
+use Rattle.costa.specs.Classes.{AreClasses, IsBadClass}
+use Rattle.costa.specs.Answer.{answer_on}
 use Rattle.costa.specs.Report.{report_of}
 
--- The answer that is to be reported, where the shelf was before and is after the fetch. The words ask
--- for a target and for the file at a path, which the third word names.
-pub data IsAnswer (asked : Option Asked) (before after : ShelfState) (status : Status) : Type 0 where
-  no_request : asked ≡ None → status ≡ answers.NotYet 1 → IsAnswer asked before after status
-  fault : (request : Asked) → asked ≡ Some request → Blames before.faults after.faults request.path
-      → status ≡ answers.FetchFault 3 → IsAnswer asked before after status
-  too_long : (request : Asked) → asked ≡ Some request → Blames before.longs after.longs request.path
-      → HoldsLonger before.files request.path → status ≡ answers.TooLong 3 → IsAnswer asked before after status
-  no_class : (request : Asked) (bytes : List ℕ) → asked ≡ Some request → Holds before.files request.path bytes
-      → IsNoClass bytes → status ≡ answers.NotYet 3 → IsAnswer asked before after status
-  on_class : (request : Asked) (bytes : List ℕ) (class : Class) → asked ≡ Some request → Holds before.files request.path bytes
-      → IsClassFile bytes class → status ≡ answer_for request.target class → IsAnswer asked before after status
+-- the answer on these classes: on the world that they form, or what keeps them from being one
+pub data OnClasses (target : Target) (classes : List ClassRecord) (status : Status) : Type 0 where
+  world : IsWellBuilt (world_of classes) → status ≡ answer_on target (world_of classes) → OnClasses target classes status
+  no_world : (fault : WorldFault) → IsFault (world_of classes) fault → status ≡ answers.BadWorld fault → OnClasses target classes status
 
--- what the class, or the want of one, in these bytes makes the answer
-pub data OnBytes (target : Target) (bytes : List ℕ) (status : Status) : Type 0 where
-  class : (class : Class) → IsClassFile bytes class → status ≡ answer_for target class → OnBytes target bytes status
-  none : IsNoClass bytes → status ≡ answers.NotYet 3 → OnBytes target bytes status
+-- the answer on these files
+pub data OnFiles (target : Target) (files : List File) (status : Status) : Type 0 where
+  read : (classes : List ClassRecord) → AreClasses files classes → OnClasses target classes status → OnFiles target files status
+  bad : (word offset : ℕ) (kind : FaultKind) → IsBadClass files word offset kind → status ≡ answers.BadClass word offset kind → OnFiles target files status
+
+-- The answer that is to be reported, in the order in which the answers come, where the shelf was before
+-- and is after the files were fetched.
+pub data IsAnswer (asked : Result Request Status) (before after : ShelfState) (status : Status) : Type 0 where
+  usage : (index : ℕ) → asked ≡ Err (answers.Usage index) → status ≡ answers.Usage index → IsAnswer asked before after status
+  later : (word : ℕ) → asked ≡ Err (answers.NotYet word) → status ≡ answers.NotYet word → IsAnswer asked before after status
+  many : (request : Request) → asked ≡ Ok request → most_files < length request.files → status ≡ answers.Limit Files most_files → IsAnswer asked before after status
+  fault : (request : Request) (word : ℕ) → asked ≡ Ok request → length request.files ≤ most_files → IsFailed before after (paths_of request) word
+      → status ≡ answers.FetchFault word → IsAnswer asked before after status
+  overlong : (request : Request) (word : ℕ) → asked ≡ Ok request → length request.files ≤ most_files → IsOverlong before after (paths_of request) word
+      → status ≡ answers.TooLong word → IsAnswer asked before after status
+  too_big : (request : Request) → asked ≡ Ok request → length request.files ≤ most_files → IsTooBig before (paths_of request)
+      → status ≡ answers.Limit Bytes most_bytes → IsAnswer asked before after status
+  on_files : (request : Request) (files : List File) → asked ≡ Ok request → length request.files ≤ most_files → HoldsAll before.files request.files files
+      → HoldBytes files → total files ≤ most_bytes → OnFiles request.target files status → IsAnswer asked before after status
 
 -- How the report of an answer was put, where the sink was old and is new: whole; or the sink failed, and
 -- may have taken its front; or memory ran out, and nothing was put.
@@ -39,12 +53,12 @@ pub data WasPut (status result : Status) (old new : SinkState) : Type 0 where
   out_of_memory : result ≡ answers.Memory → new.content ≡ old.content → WasPut status result old new
 
 -- What the call answers: an answer whose report was put, or why none was. The report is put in one call.
-pub data Outcome (asked : Option Asked) (before after : ShelfState) (result : Status) (old new : SinkState) : Type 0 where
+pub data Outcome (asked : Result Request Status) (before after : ShelfState) (result : Status) (old new : SinkState) : Type 0 where
   answered : (status : Status) → IsAnswer asked before after status → WasPut status result old new → Outcome asked before after result old new
   gave_up : result ≡ answers.Memory → new.content ≡ old.content → Outcome asked before after result old new
 
 -- the sink failed under the report of an answer that the words and the files allow
-pub record IsOutFault (asked : Option Asked) (before after : ShelfState) (old new : SinkState) : Type 0 where
+pub record IsOutFault (asked : Result Request Status) (before after : ShelfState) (old new : SinkState) : Type 0 where
   pub status : Status
   pub answer : IsAnswer asked before after status
   pub rises : Rises old.faults new.faults
@@ -64,5 +78,15 @@ pub data UnlessNotPut (status result : Status) : Type 0 where
 -- this answer, or one that only the outside or want of memory gives
 pub data UnlessOutside (status result : Status) : Type 0 where
   put_so : UnlessNotPut status result → UnlessOutside status result
-  not_fetched : result ≡ answers.FetchFault 3 → UnlessOutside status result
-  not_short : result ≡ answers.TooLong 3 → UnlessOutside status result
+  not_fetched : (word : ℕ) → result ≡ answers.FetchFault word → UnlessOutside status result
+  not_short : (word : ℕ) → result ≡ answers.TooLong word → UnlessOutside status result
+
+-- no more files are asked for than may be, the shelf tells what it holds, and these are they
+pub record AsksFor (asked : Result Request Status) (shelf : ShelfState) (target : Target) (files : List File) : Type 0 where
+  pub request : Request
+  pub is_asked : asked ≡ Ok request
+  pub is_target : request.target ≡ target
+  pub few : length request.files ≤ most_files
+  pub tells : Tells shelf
+  pub held : HoldsAll shelf.files request.files files
+  pub fits : total files ≤ most_bytes

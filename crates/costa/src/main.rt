@@ -2,6 +2,8 @@
 #![tactic(auto)]
 
 mod answer;
+mod classes;
+mod fetching;
 mod laws;
 mod report;
 mod status;
@@ -10,8 +12,7 @@ mod verdict;
 mod words;
 
 pub use laws::straight_code_costs_its_length;
-pub use ports::{Blame, Fetch, FileShelf, MemoryShelf, MemorySink, OutSink, Put, Shelf, Sink};
-pub use status::Status;
+pub use status::{FaultKind, LimitKind, Status};
 pub use top::costa;
 pub use verdict::Verdict;
 
@@ -19,6 +20,7 @@ pub use verdict::Verdict;
 mod tests;
 
 use crate::report::exit_code;
+use ports::{FileShelf, OutSink};
 use std::alloc::{AllocError, Global};
 use std::process::ExitCode;
 use std::rt::Env;

@@ -1,35 +1,75 @@
-ghost use Rattle.std.specs.Prelude.{◌≡◌, ◌≤◌, ℕ, List, None, Some, length, IfOk};
-ghost use Rattle.class_pool.specs.declared.target.Target as asked;
-ghost use Rattle.class_reader.specs.declared.class.Class as read;
-ghost use Rattle.class_reader.specs.ClassFile.{IsClassFile};
+ghost use Rattle.std.specs.Prelude.{◌≡◌, ◌≢◌, ◌<◌, ◌≤◌, ◌^◌, ℕ, List, Ok, Err, length, false, IfOk};
+ghost use Rattle.class_pool.specs.declared.target.Target as asked_for;
+ghost use Rattle.class_reader.specs.declared.class.ClassRecord as found;
 ghost use Rattle.op_table.specs.declared.construct.Construct as against;
-ghost use Rattle.ports.specs.Shelf.{longest_file};
+ghost use Rattle.world.specs.declared.fault.WorldFault as against_world;
+ghost use Rattle.world.specs.declared.fault.WorldFault.TheVariants.{Memory};
+ghost use Rattle.world.specs.World.{world_of};
+ghost use Rattle.world.specs.Building.{IsWellBuilt, IsFault};
+ghost use Rattle.cost_words.specs.declared.fault.WordFault.TheVariants.{Wrong};
+ghost use Rattle.cost_words.specs.declared.fault.WordKind as kinds;
+ghost use Rattle.cost_words.specs.Reading.{words_of};
+ghost use Rattle.cost_words.specs.Grammar.{command_of};
 ghost use Rattle.ports.specs.Sink.{Appends};
-ghost use Rattle.costa.specs.Words.{Asked, request_of, request_view, words_of};
-ghost use Rattle.costa.specs.Answer.{answer_for};
+ghost use Rattle.costa.specs.declared.fetching.File as fetched;
+ghost use Rattle.costa.specs.declared.status.FaultKind as against_class;
+ghost use Rattle.costa.specs.declared.status.LimitKind as limits;
+ghost use Rattle.costa.specs.declared.words.Request as requests;
+ghost use Rattle.costa.specs.Words.{request_of, paths_of};
+ghost use Rattle.costa.specs.Files.{Tells, IsTooBig, total, most_files, most_bytes};
+ghost use Rattle.costa.specs.Classes.{AreClasses, IsBadClass};
+ghost use Rattle.costa.specs.Answer.{answer_on};
 ghost use Rattle.costa.specs.Report.{report_of};
-ghost use Rattle.costa.specs.Headline.{HasBound, HasNoMethod, IsUnsupported, IsNotYet, IsFetchFault, IsTooLong, IsNoClass, Tells};
-ghost use Rattle.costa.specs.Answers.{IsAnswer, OnBytes, WasPut, Outcome, IsOutFault, IsReported, UnlessNotPut, UnlessOutside};
+ghost use Rattle.costa.specs.Headline.{HasBound};
+ghost use Rattle.costa.specs.Causes.{IsUsage, IsLimit, IsFetchFault, IsTooLong, IsNotYet, HasBadClass, HasBadWorld, HasNoMethod, IsUnsupported};
+ghost use Rattle.costa.specs.Answers.{IsAnswer, OnClasses, OnFiles, WasPut, Outcome, IsOutFault, IsReported, UnlessNotPut, UnlessOutside, AsksFor};
 
-use crate::answer::answer;
+use crate::answer::answer_on;
+use crate::classes::{Unread, classes_of};
+use crate::fetching::{File, MOST_BYTES, Stop, fetch_all};
 use crate::report::report;
-use crate::words::{Request, requested};
-use crate::{Fetch, Put, Shelf, Sink, Status};
+use crate::words::{Request, request_of};
+use crate::{LimitKind, Status};
 use class_pool::Target;
-use class_reader::{ClassFault, read};
+use class_reader::Class;
+use ports::{Put, Shelf, Sink};
 use std::alloc::{AllocError, Global};
+use world::{World, WorldFault};
 
-/// The word that names the class file, counted from 1.
-const FILE_WORD: u64 = 3;
+/// How many files are named at most.
+const MOST_FILES: usize = 1_024;
 
-fn on_bytes(alloc: Global, target: Target, bytes: &[u8]) -> Result<Status, AllocError>
-    requires { length bytes.now ≤ longest_file }
-    ensures { IfOk result (OnBytes target bytes.now) }
+fn is_memory(fault: &WorldFault) -> bool
+    ensures { result ≡ false → fault.now ≢ Memory }
 {
-    match read(alloc, bytes) {
-        Ok(class) => Ok(answer(target, &class)),
-        Err(ClassFault::Other) => Ok(Status::NotYet { word: FILE_WORD }),
-        Err(ClassFault::Memory) => Err(AllocError),
+    matches!(fault, WorldFault::Memory)
+}
+
+fn on_classes(alloc: Global, target: Target, classes: Vec<Class>) -> Result<Status, AllocError>
+    requires { length classes.items < 2 ^ 31 }
+    ensures { IfOk result (OnClasses target classes.items) }
+{
+    match World::build(alloc, classes) {
+        Ok(world) => Ok(answer_on(target, &world)),
+        Err(fault) => {
+            if is_memory(&fault) {
+                Err(AllocError)
+            } else {
+                Ok(Status::BadWorld(fault))
+            }
+        }
+    }
+}
+
+fn on_files(alloc: Global, target: Target, files: &[File]) -> Result<Status, AllocError>
+    requires few { length files.now ≤ most_files }
+    requires fits { total files.now ≤ most_bytes }
+    ensures { IfOk result (OnFiles target files.now) }
+{
+    match classes_of(alloc, files) {
+        Ok(classes) => on_classes(alloc, target, classes),
+        Err(Unread::Bad { word, offset, kind }) => Ok(Status::BadClass { word, offset, kind }),
+        Err(Unread::Memory) => Err(AllocError),
     }
 }
 
@@ -38,15 +78,24 @@ fn on_request<F: Shelf>(
     request: Request,
     shelf: &mut F,
 ) -> Result<Status, AllocError>
-    ensures answer { IfOk result (IsAnswer (Some (request_view request)) (F.meaning shelf.old) (F.meaning shelf.new)) }
+    ensures answer { IfOk result (IsAnswer (Ok request) (F.meaning shelf.old) (F.meaning shelf.new)) }
     ensures kept { (F.meaning shelf.new).files ≡ (F.meaning shelf.old).files }
 {
-    let path = request.path.as_str();
-    match shelf.fetch(path) {
-        Ok(bytes) => on_bytes(alloc, request.target, bytes.as_slice()),
-        Err(Fetch::Failed) => Ok(Status::FetchFault { word: FILE_WORD }),
-        Err(Fetch::TooLong) => Ok(Status::TooLong { word: FILE_WORD }),
-        Err(Fetch::Memory) => Err(AllocError),
+    if request.files.len() > MOST_FILES {
+        return Ok(Status::Limit {
+            kind: LimitKind::Files,
+            number: MOST_FILES as u128,
+        });
+    }
+    match fetch_all(alloc, shelf, request.files.as_slice()) {
+        Ok(files) => on_files(alloc, request.target, files.as_slice()),
+        Err(Stop::Failed { word }) => Ok(Status::FetchFault { word }),
+        Err(Stop::TooLong { word }) => Ok(Status::TooLong { word }),
+        Err(Stop::TooBig) => Ok(Status::Limit {
+            kind: LimitKind::Bytes,
+            number: MOST_BYTES as u128,
+        }),
+        Err(Stop::Memory) => Err(AllocError),
     }
 }
 
@@ -54,9 +103,9 @@ fn answer_to<F: Shelf>(alloc: Global, words: &[String], shelf: &mut F) -> Result
     ensures answer { IfOk result (IsAnswer (request_of (words_of words.now)) (F.meaning shelf.old) (F.meaning shelf.new)) }
     ensures kept { (F.meaning shelf.new).files ≡ (F.meaning shelf.old).files }
 {
-    match requested(alloc, words)? {
-        Some(request) => on_request(alloc, request, shelf),
-        None => Ok(Status::NotYet { word: 1 }),
+    match request_of(alloc, words)? {
+        Ok(request) => on_request(alloc, request, shelf),
+        Err(status) => Ok(status),
     }
 }
 
@@ -73,7 +122,7 @@ fn put<S: Sink>(alloc: Global, status: Status, out: &mut S) -> Status
     }
 }
 
-/// Answers the words, and puts the report of the answer in one call of the sink.
+// Answers the words, and puts the report of the answer in one call of the sink.
 fn answer_and_put<F: Shelf, S: Sink>(
     alloc: Global,
     words: &[String],
@@ -89,35 +138,59 @@ fn answer_and_put<F: Shelf, S: Sink>(
     }
 }
 
-/// Does all that the program does: reads the words `bound TARGET FILE`, fetches the file from the shelf,
-/// bounds the cost of the target in it, and puts the report of the answer in one call of the sink.
+/// Does all that the program does: reads the words, fetches the files from the shelf, bounds the cost of
+/// the target in them, and puts the report of the answer in one call of the sink.
+///
+/// The answers come in this order: `Usage` of the first wrong word; `NotYet` of the first word that asks
+/// for what isn't built; `Limit` of files where more than 1,024 are named; for each file in turn
+/// `FetchFault`, `TooLong`, and `Limit` of bytes where those so far have more than 268,435,456; `BadClass`
+/// of the first file that is no class, with its first fault; `BadWorld` where the classes are no world, with its
+/// first fault; `NoMethod`, `Unsupported` or `Bound` by the class that has the name. `OutFault` stands for any whose
+/// report was not put, and `Memory` may come in place of each.
 pub fn costa<F: Shelf, S: Sink>(
     alloc: Global,
     words: &[String],
     shelf: &mut F,
     out: &mut S,
 ) -> Status
-    // Where a bound is answered, the file is a class that declares the target, and in each run of the
-    // machine that enters the target with int arguments, at each unwrapped moment, at most so much is spent.
+    // Where a bound is answered, the files are classes, which form a world, its class that has the name declares
+    // the target, and in each run of the machine that enters the target with int arguments, at each unwrapped
+    // moment, at most so much is spent.
     ensures bound { (bound : ℕ) → result ≡ Status.Bound bound → HasBound (request_of (words_of words.now)) (F.meaning shelf.old) bound }
 
     // Each other answer has its cause.
-    ensures not_yet { (word : ℕ) → result ≡ Status.NotYet word → IsNotYet (request_of (words_of words.now)) (F.meaning shelf.old) word }
+    ensures usage { (index : ℕ) → result ≡ Status.Usage index → IsUsage (command_of (words_of words.now)) index }
+    ensures limit { (kind : limits.LimitKind) (number : ℕ) → result ≡ Status.Limit kind number → IsLimit (request_of (words_of words.now)) (F.meaning shelf.old) kind number }
     ensures fetch_fault { (word : ℕ) → result ≡ Status.FetchFault word → IsFetchFault (request_of (words_of words.now)) (F.meaning shelf.old) (F.meaning shelf.new) word }
     ensures too_long { (word : ℕ) → result ≡ Status.TooLong word → IsTooLong (request_of (words_of words.now)) (F.meaning shelf.old) (F.meaning shelf.new) word }
-    ensures no_method { (target : asked.Target) → result ≡ Status.NoMethod target → HasNoMethod (request_of (words_of words.now)) (F.meaning shelf.old) target }
-    ensures unsupported { (target : asked.Target) (pc : ℕ) (construct : against.Construct) → result ≡ Status.Unsupported target pc construct
+    ensures not_yet { (word : ℕ) → result ≡ Status.NotYet word → IsNotYet (request_of (words_of words.now)) word }
+    ensures bad_class { (word offset : ℕ) (kind : against_class.FaultKind) → result ≡ Status.BadClass word offset kind
+        → HasBadClass (request_of (words_of words.now)) (F.meaning shelf.old) word offset kind }
+    ensures bad_world { (fault : against_world.WorldFault) → result ≡ Status.BadWorld fault → HasBadWorld (request_of (words_of words.now)) (F.meaning shelf.old) fault }
+    ensures no_method { (target : asked_for.Target) → result ≡ Status.NoMethod target → HasNoMethod (request_of (words_of words.now)) (F.meaning shelf.old) target }
+    ensures unsupported { (target : asked_for.Target) (pc : ℕ) (construct : against.Construct) → result ≡ Status.Unsupported target pc construct
         → IsUnsupported (request_of (words_of words.now)) (F.meaning shelf.old) target pc construct }
     ensures out_fault { result ≡ Status.OutFault → IsOutFault (request_of (words_of words.now)) (F.meaning shelf.old) (F.meaning shelf.new) (S.meaning out.old) (S.meaning out.new) }
     ensures memory { result ≡ Status.Memory → (S.meaning out.new).content ≡ (S.meaning out.old).content }
 
-    // Words that are no request are told so; what else is answered is the answer on the bytes that the
-    // shelf tells, unless the outside fails or memory runs out.
-    ensures refused { request_of (words_of words.now) ≡ None → UnlessNotPut (Status.NotYet 1) result }
-    ensures answered { (request : Asked) (bytes : List ℕ) (class : read.Class) → request_of (words_of words.now) ≡ Some request
-        → Tells (F.meaning shelf.old) request.path bytes → IsClassFile bytes class → UnlessOutside (answer_for request.target class) result }
-    ensures unread { (request : Asked) (bytes : List ℕ) → request_of (words_of words.now) ≡ Some request
-        → Tells (F.meaning shelf.old) request.path bytes → IsNoClass bytes → UnlessOutside (Status.NotYet 3) result }
+    // And each cause has its answer, unless the outside fails or memory runs out: the first wrong word, the
+    // first that asks for what isn't built, too many files, and, where the shelf tells what it holds, too
+    // many bytes, the first file that is no class, the first fault of classes that are no world, and the answer on
+    // the world.
+    ensures misused { (kind : kinds.WordKind) (index : ℕ) → command_of (words_of words.now) ≡ Err (Wrong kind index) → UnlessNotPut (Status.Usage index) result }
+    ensures later { (word : ℕ) → request_of (words_of words.now) ≡ Err (Status.NotYet word) → UnlessNotPut (Status.NotYet word) result }
+    ensures many { (request : requests.Request) → request_of (words_of words.now) ≡ Ok request → most_files < length request.files
+        → UnlessNotPut (Status.Limit LimitKind.Files most_files) result }
+    ensures too_big { (request : requests.Request) → request_of (words_of words.now) ≡ Ok request → length request.files ≤ most_files
+        → Tells (F.meaning shelf.old) → IsTooBig (F.meaning shelf.old) (paths_of request) → UnlessOutside (Status.Limit LimitKind.Bytes most_bytes) result }
+    ensures unread { (target : asked_for.Target) (files : List fetched.File) (word offset : ℕ) (kind : against_class.FaultKind)
+        → AsksFor (request_of (words_of words.now)) (F.meaning shelf.old) target files → IsBadClass files word offset kind → UnlessOutside (Status.BadClass word offset kind) result }
+    ensures no_world { (target : asked_for.Target) (files : List fetched.File) (classes : List found.ClassRecord) (fault : against_world.WorldFault)
+        → AsksFor (request_of (words_of words.now)) (F.meaning shelf.old) target files → AreClasses files classes → IsFault (world_of classes) fault
+        → UnlessOutside (Status.BadWorld fault) result }
+    ensures answered { (target : asked_for.Target) (files : List fetched.File) (classes : List found.ClassRecord)
+        → AsksFor (request_of (words_of words.now)) (F.meaning shelf.old) target files → AreClasses files classes → IsWellBuilt (world_of classes)
+        → UnlessOutside (answer_on target (world_of classes)) result }
 
     // The report of an answer was put, whole.
     ensures reported { IsReported result → Appends (S.meaning out.old).content (report_of result) (S.meaning out.new).content }

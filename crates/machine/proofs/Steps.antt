@@ -1,6 +1,6 @@
 -- A step, from what its event tells.
 use Rattle.std.proofs.Common.{◌≡◌, ℕ, ◌+◌, ◌⊎◌, inl, inr, Option, Some, None, refl, sym, ◌∙◌, ap}
-use Rattle.class_reader.specs.declared.class.Class.{Class}
+use Rattle.class_reader.specs.declared.class.ClassRecord.{ClassRecord}
 use Rattle.machine.specs.declared.state.Frame.{Frame}
 use Rattle.machine.specs.declared.state.Stop.{Stop}
 use Rattle.machine.specs.declared.state.Status.{Status}
@@ -32,7 +32,7 @@ settle_one before frame None = refl
 settle_one before frame (Some s) = refl
 
 -- a running configuration's step, from what its event tells
-pub step_told : (class : Class) (before : State) (frame : Frame) (event : Event) → before.status ≡ statuses.Running
+pub step_told : (class : ClassRecord) (before : State) (frame : Frame) (event : Event) → before.status ≡ statuses.Running
     → Tells event before.frame frame (outcome_of before.frame (next_instruction class before.frame))
     → step_of instruction_cost class before ≡ (event, after event 1 before frame)
 unfolding step_of
@@ -42,11 +42,11 @@ step_told class before frame event runs told =
     ∙ settle_told 1 before frame (outcome_of before.frame (next_instruction class before.frame)) event told
 
 -- a configuration that doesn't run stays
-pub step_ended : (class : Class) (before : State) → before.status ≡ statuses.Ended → step_of instruction_cost class before ≡ (Ended, before)
+pub step_ended : (class : ClassRecord) (before : State) → before.status ≡ statuses.Ended → step_of instruction_cost class before ≡ (Ended, before)
 unfolding step_of
 step_ended class before ended = ap (λ (status : Status). step_from status instruction_cost class before) ended
 
-pub step_stopped : (class : Class) (before : State) (stop : Stop) → before.status ≡ statuses.Stopped stop
+pub step_stopped : (class : ClassRecord) (before : State) (stop : Stop) → before.status ≡ statuses.Stopped stop
     → step_of instruction_cost class before ≡ (Stopped stop, before)
 unfolding step_of
 step_stopped class before stop stopped = ap (λ (status : Status). step_from status instruction_cost class before) stopped
@@ -57,7 +57,7 @@ after_going before frame event (inl went) = ap (λ (e : Event). after e 1 before
 after_going before frame event (inr wrapped) = ap (λ (e : Event). after e 1 before frame) wrapped
 
 -- a step that goes on leaves the status
-pub step_going : (class : Class) (before : State) (frame : Frame) (event : Event) → before.status ≡ statuses.Running
+pub step_going : (class : ClassRecord) (before : State) (frame : Frame) (event : Event) → before.status ≡ statuses.Running
     → Tells event before.frame frame (outcome_of before.frame (next_instruction class before.frame)) → (event ≡ Went) ⊎ (event ≡ Wrapped)
     → step_of instruction_cost class before ≡ (event, record { frame = frame; spent = before.spent + 1; status = before.status })
 step_going class before frame event runs told goes =

@@ -2,7 +2,7 @@
 use Rattle.std.specs.Prelude.{◌≡◌, ◌==◌, ◌||◌, ◌&&◌, not, ℕ, ◌+◌, ◌^◌, nat_lt, nat_le, ℤ, pos, negsuc, ◌+ℤ◌, ◌-ℤ◌, ◌*ℤ◌, neg_ℤ, Bool, true, false, List, [], ◌∷◌, length, Option, Some, None, slice_get, slice_set, if◌then◌else◌}
 use Rattle.std.specs.Option.{option_and_then}
 use Rattle.std.specs.Int.{w32, int_wrap}
-use Rattle.class_reader.specs.declared.class.Class.{Class}
+use Rattle.class_reader.specs.declared.class.ClassRecord.{ClassRecord}
 use Rattle.class_reader.specs.declared.class.Method.{Method}
 use Rattle.class_reader.specs.declared.class.Code.{Code}
 use Rattle.op_table.specs.declared.action.Action.{Action}
@@ -152,33 +152,39 @@ settled code frame next (Some w) =
     else Stops Shape
 
 -- what an action makes of the frame of a method, where the instruction behind it stands at next
-abbrev pub acts : Action → Method → Frame → ℕ → Outcome
-acts ReturnInt method frame next = leaves_if (returns_int (plain_result method.desc) && top_is_int frame.stack)
-acts ReturnVoid method frame next = leaves_if (returns_nothing (plain_result method.desc))
-acts action method frame next = settled method.code frame next (words_after action frame.locals frame.stack)
+abbrev pub acts : Action → Method → Code → Frame → ℕ → Outcome
+acts ReturnInt method code frame next = leaves_if (returns_int (plain_result method.desc) && top_is_int frame.stack)
+acts ReturnVoid method code frame next = leaves_if (returns_nothing (plain_result method.desc))
+acts action method code frame next = settled code frame next (words_after action frame.locals frame.stack)
 
 -- ---- what a step makes of the configuration
 
 -- an instruction that stands in the code of a method
 pub record Standing : Type 0 where
   pub method : Method
+  pub code : Code
   pub instruction : Instruction
 
-abbrev pub standing : Method → Option Instruction → Option Standing
-standing method None = None
-standing method (Some i) = Some (record { method = method; instruction = i })
+abbrev pub standing : Method → Code → Option Instruction → Option Standing
+standing method code None = None
+standing method code (Some i) = Some (record { method = method; code = code; instruction = i })
+
+-- none stands in a method without code
+abbrev pub standing_on : Method → Option Code → ℕ → Option Standing
+standing_on method None pc = None
+standing_on method (Some code) pc = standing method code (instruction_at code.bytes pc)
 
 abbrev pub standing_in : Option Method → ℕ → Option Standing
 standing_in None pc = None
-standing_in (Some method) pc = standing method (instruction_at method.code.bytes pc)
+standing_in (Some method) pc = standing_on method method.code pc
 
 -- the instruction that the frame comes to next
-abbrev pub next_instruction : Class → Frame → Option Standing
+abbrev pub next_instruction : ClassRecord → Frame → Option Standing
 next_instruction class frame = standing_in (slice_get class.methods frame.method) frame.pc
 
 abbrev pub outcome_of : Frame → Option Standing → Outcome
 outcome_of frame None = Stops Support
-outcome_of frame (Some s) = acts s.instruction.action s.method frame (frame.pc + s.instruction.length)
+outcome_of frame (Some s) = acts s.instruction.action s.method s.code frame (frame.pc + s.instruction.length)
 
 -- what the step adds to the cost, unless it stops
 abbrev pub weight_of : (ℕ → ℕ) → Option Standing → ℕ
@@ -193,7 +199,7 @@ settle weight before Leaves = (events.Ended, record { frame = before.frame; spen
 settle weight before (Stops stop) = (events.Stopped stop, record { frame = before.frame; spent = before.spent; status = statuses.Stopped stop })
 
 -- a running configuration makes a step; another stays, and its last event is told again
-abbrev pub step_from : Status → (ℕ → ℕ) → Class → State → Event × State
+abbrev pub step_from : Status → (ℕ → ℕ) → ClassRecord → State → Event × State
 step_from statuses.Running weights class before =
     let s = next_instruction class before.frame in
     settle (weight_of weights s) before (outcome_of before.frame s)
@@ -201,7 +207,7 @@ step_from statuses.Ended weights class before = (events.Ended, before)
 step_from (statuses.Stopped stop) weights class before = (events.Stopped stop, before)
 
 -- the event of a step and the configuration after it, where each opcode has its weight
-unfoldable pub step_of : (ℕ → ℕ) → Class → State → Event × State
+unfoldable pub step_of : (ℕ → ℕ) → ClassRecord → State → Event × State
 step_of weights class before = step_from before.status weights class before
 
 -- each instruction costs 1
@@ -209,6 +215,6 @@ abbrev pub instruction_cost : ℕ → ℕ
 instruction_cost opcode = 1
 
 -- one step leads from a running configuration to the next
-pub record Step (weights : ℕ → ℕ) (class : Class) (before now : State) : Type 0 where
+pub record Step (weights : ℕ → ℕ) (class : ClassRecord) (before now : State) : Type 0 where
   pub runs : before.status ≡ statuses.Running
   pub made : now ≡ (step_of weights class before).1

@@ -1,19 +1,19 @@
 ghost use Rattle.std.specs.Prelude.{◌≡◌, ◌+◌, ◌≤◌, ◌^◌, Some, OnErr, IfOk};
 ghost use Rattle.op_table.specs.Instructions.{instruction_at};
-ghost use Rattle.machine.specs.Step.{acts, instruction_cost, next_instruction, outcome_of, settled, standing, step_of, words_after};
+ghost use Rattle.machine.specs.Step.{acts, instruction_cost, next_instruction, outcome_of, settled, standing, standing_on, step_of, words_after};
 ghost use Rattle.machine.specs.Telling.{Tells};
 
 use crate::effect::{apply, is_held, is_wrapping};
 use crate::groups::effect_of;
 use crate::returning::{leave_with_int, leave_with_nothing};
 use crate::{Event, Frame, State, Status, Stop};
-use class_reader::{Class, Code, Method};
+use class_reader::{ClassRecord, Code, Method};
 use op_table::{Action, Instruction, decode};
 use std::alloc::AllocError;
 
 /// Makes one step of a running configuration, in which each instruction costs 1, and says what it
 /// was (JVMS 2.11, 6.5). A configuration that doesn't run stays. An `Err` changes nothing.
-pub fn step(state: &mut State, class: &Class) -> Result<Event, AllocError>
+pub fn step(state: &mut State, class: &ClassRecord) -> Result<Event, AllocError>
     requires { state.old.spent ≤ 2 ^ 127 }
     ensures made { IfOk result (λ event. step_of instruction_cost class.now state.old ≡ (event, state.new)) }
     ensures err { OnErr result (state.new ≡ state.old) }
@@ -26,7 +26,7 @@ pub fn step(state: &mut State, class: &Class) -> Result<Event, AllocError>
 }
 
 // The step of a configuration that runs.
-fn run_on(state: &mut State, class: &Class) -> Result<Event, AllocError>
+fn run_on(state: &mut State, class: &ClassRecord) -> Result<Event, AllocError>
     requires running { state.old.status ≡ Status.Running }
     requires room { state.old.spent ≤ 2 ^ 127 }
     ensures made { IfOk result (λ event. step_of instruction_cost class.now state.old ≡ (event, state.new)) }
@@ -45,7 +45,7 @@ fn run_on(state: &mut State, class: &Class) -> Result<Event, AllocError>
 }
 
 // Does the instruction that stands at the frame's pc. An `Err` changes nothing.
-fn advance(frame: &mut Frame, class: &Class) -> Result<Event, AllocError>
+fn advance(frame: &mut Frame, class: &ClassRecord) -> Result<Event, AllocError>
     ensures made { IfOk result (λ event. Tells event frame.old frame.new (outcome_of frame.old (next_instruction class.now frame.old))) }
     ensures err { OnErr result (frame.new ≡ frame.old) }
 {
@@ -56,15 +56,25 @@ fn advance(frame: &mut Frame, class: &Class) -> Result<Event, AllocError>
 }
 
 fn advance_in(method: &Method, frame: &mut Frame) -> Result<Event, AllocError>
-    ensures made { IfOk result (λ event. Tells event frame.old frame.new
-        (outcome_of frame.old (standing method.now (instruction_at method.now.code.bytes frame.old.pc)))) }
+    ensures made { IfOk result (λ event. Tells event frame.old frame.new (outcome_of frame.old (standing_on method.now method.now.code frame.old.pc))) }
     ensures err { OnErr result (frame.new ≡ frame.old) }
 {
-    match decode(method.code.bytes.as_slice(), frame.pc) {
+    match &method.code {
+        None => Ok(Event::Stopped(Stop::Support)),
+        Some(code) => advance_on(method, code, frame),
+    }
+}
+
+fn advance_on(method: &Method, code: &Code, frame: &mut Frame) -> Result<Event, AllocError>
+    ensures made { IfOk result (λ event. Tells event frame.old frame.new
+        (outcome_of frame.old (standing method.now code.now (instruction_at code.now.bytes frame.old.pc)))) }
+    ensures err { OnErr result (frame.new ≡ frame.old) }
+{
+    match decode(code.bytes.as_slice(), frame.pc) {
         None => Ok(Event::Stopped(Stop::Support)),
         Some(instruction) => {
-            let next = behind(method.code.bytes.as_slice(), frame.pc, &instruction);
-            act(instruction.action, method, frame, next)
+            let next = behind(code.bytes.as_slice(), frame.pc, &instruction);
+            act(instruction.action, method, code, frame, next)
         }
     }
 }
@@ -78,14 +88,20 @@ fn behind(code: &[u8], pc: usize, instruction: &Instruction) -> usize
 }
 
 // Does an action, behind which the code goes on at next. An `Err` changes nothing.
-fn act(action: Action, method: &Method, frame: &mut Frame, next: usize) -> Result<Event, AllocError>
-    ensures made { IfOk result (λ event. Tells event frame.old frame.new (acts action method.now frame.old next)) }
+fn act(
+    action: Action,
+    method: &Method,
+    code: &Code,
+    frame: &mut Frame,
+    next: usize,
+) -> Result<Event, AllocError>
+    ensures made { IfOk result (λ event. Tells event frame.old frame.new (acts action method.now code.now frame.old next)) }
     ensures err { OnErr result (frame.new ≡ frame.old) }
 {
     match action {
         Action::ReturnInt => Ok(leave_with_int(method, frame)),
         Action::ReturnVoid => Ok(leave_with_nothing(method, frame)),
-        _ => go_on(action, &method.code, frame, next),
+        _ => go_on(action, code, frame, next),
     }
 }
 

@@ -1,9 +1,17 @@
 use super::*;
-use class_pool::{Sequence, Text};
-use class_reader::{Class, Code, Method};
+use class_pool::{Cursor, Pool, Sequence, Text};
+use class_reader::{ClassRecord, Code, Method};
 use std::alloc::{AllocError, Global};
 use std::process::Abort;
 use std::test::Fail;
+
+// A pool without entries.
+fn no_pool(alloc: Global) -> Result<Pool, Fail> {
+    match Pool::read(alloc, Cursor::new(&[0, 1], 0)) {
+        Ok((pool, _)) => Ok(pool),
+        Err(_) => Err(Fail::from("no pool")),
+    }
+}
 
 // A class with one static method.
 fn class_of(
@@ -12,39 +20,44 @@ fn class_of(
     code: &[u8],
     max_stack: u16,
     max_locals: u16,
-) -> Result<Class, AllocError> {
+) -> Result<ClassRecord, Fail> {
     let method = Method {
         flags: 8,
         name: Text::from_slice(alloc, b"run")?,
         desc: Text::from_slice(alloc, desc)?,
-        code: Code {
+        code: Some(Code {
             max_stack,
             max_locals,
             bytes: Sequence::from(code.to_vec(alloc)?),
-        },
+            handlers: Sequence::new(alloc),
+        }),
     };
     let mut methods = Sequence::new(alloc);
     methods.push(method)?;
-    Ok(Class {
+    Ok(ClassRecord {
         major: 65,
         flags: 0x21,
         name: Text::from_slice(alloc, b"Sums")?,
         super_name: None,
+        interfaces: Sequence::new(alloc),
+        fields: Sequence::new(alloc),
         methods,
+        pool: no_pool(alloc)?,
     })
 }
 
 // The configuration that enters the class's method.
-fn entered(alloc: Global, class: &Class, arguments: &[i32]) -> Result<State, Fail> {
+fn entered(alloc: Global, class: &ClassRecord, arguments: &[i32]) -> Result<State, Fail> {
     let method = class.methods.as_slice().first().ok_or("no method")?;
-    if arguments.len() > usize::from(method.code.max_locals) {
+    let code = method.code.as_ref().ok_or("no code")?;
+    if arguments.len() > usize::from(code.max_locals) {
         return Err(Fail::from("too many arguments"));
     }
-    Ok(enter(alloc, 0, method, arguments)?)
+    Ok(enter(alloc, 0, code, arguments)?)
 }
 
 // A step, unless so much is spent that no more is counted.
-fn stepped(state: &mut State, class: &Class) -> Result<Event, Fail> {
+fn stepped(state: &mut State, class: &ClassRecord) -> Result<Event, Fail> {
     if state.spent > 1000 {
         return Err(Fail::from("too much is spent"));
     }

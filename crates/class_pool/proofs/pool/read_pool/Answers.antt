@@ -2,7 +2,7 @@ use Rattle.std.proofs.Common.{arith, sym, ap, subst, ◌∙◌}
 use Rattle.std.specs.Prelude.{sum_by}
 use Rattle.std.specs.List.{AllByRecursion}
 use Rattle.class_pool.specs.Pool.{IsLinkedSlot}
-use Rattle.class_pool.specs.Place.{Place, IsBytes}
+use Rattle.class_pool.specs.Place.{IsBytes}
 use Rattle.class_pool.specs.PoolReading.{slot_size}
 use Rattle.class_pool.proofs.Numbers.{IsBytes-drop}
 use Rattle.class_pool.proofs.Getters.{Slots}

@@ -1,9 +1,9 @@
 use Rattle.std.proofs.Common.{arith}
-use Rattle.class_reader.proofs.Classes.{is_found, no_class}
+use Rattle.class_pool.specs.Place.{IsBytes}
 use Rattle.class_reader.proofs.reader.read.Goals as goal
 
-pub returns-clause-found : goal.returns-clause-found
-returns-clause-found c = is_found c.args.bytes.now c.read_all.result (λ i. omega (arith, c.type_inv.bytes i)) c.read_all.ensures
-
-pub returns-clause-other : goal.returns-clause-other
-returns-clause-other c = no_class c.args.bytes.now c.read_all.result c.read_all.ensures
+pub invariant_of-result : goal.invariant_of-result
+invariant_of-result c =
+    let fits : IsBytes c.args.bytes.now = λ i. omega (arith, c.type_inv.bytes i) in
+    let class = c.in_ok-read_record.field-0 in
+    c.read_is_class.ensures c.args.bytes.now class ((c.reading_is_exact.ensures.class c.args.bytes.now fits class).0 c.in_ok-read_record.ensures)

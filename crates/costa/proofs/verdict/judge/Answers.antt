@@ -1,5 +1,4 @@
-use Rattle.std.proofs.Common.{◌≡◌, ℕ, ◌+◌, ◌≤◌, ◌<◌, ◌^◌, length, Some, sym, ◌∙◌, arith, rules, Fits, w64}
-use Rattle.op_table.specs.Instructions.{instruction_at, is_return}
+use Rattle.std.proofs.Common.{sym, ◌∙◌, arith}
 use Rattle.op_table.proofs.Lengths.{instruction-length}
 use Rattle.costa.specs.Answer.{verdict_of}
 use Rattle.costa.proofs.Counting.{starts, stands_here, stands_behind, counts_last, falls_off, goes_on, ends_here}

@@ -1,4 +1,4 @@
-use Rattle.std.proofs.Common.{◌≡◌, ◌-◌, ◌≤◌, ◌<◌, length}
+use Rattle.std.proofs.Common.{◌≡◌, ◌-◌, length}
 use Rattle.costa.specs.Answer.{verdict_from, verdict_of}
 use Rattle.costa.proofs.Counting.{counted}
 use Rattle.costa.proofs.verdict.judge.Given as goal

@@ -1,0 +1,11 @@
+pub mod Places
+pub mod First
+pub mod Rows
+pub mod Lines
+pub mod Finding
+pub mod Selecting
+pub mod Exploring
+pub mod Cycles
+pub mod Counts
+pub mod There
+pub mod Instancing

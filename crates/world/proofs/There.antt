@@ -1,0 +1,190 @@
+-- What a name means is there.
+use Rattle.std.proofs.Common.{◌≡◌, ◌⊎◌, inl, inr, ℕ, zero, suc, ◌<◌, ◌≤◌, Bool, true, false, ◌||◌, ◌&&◌, not, cond, List, [], ◌∷◌, ◌++◌, length, Option, Some, None, arith, refl, sym, ap, ◌∙◌, nat_eq}
+use Rattle.std.specs.Prelude.{find, Result, Ok, Err, if◌then◌else◌}
+use Rattle.std.specs.Option.{option_or, option_and_then, option_map, ok_or, option_map_or}
+use Rattle.std.specs.Prelude.{slice_get}
+use Rattle.std.specs.List.{list_any, flat_map, position}
+use Rattle.std.proofs.lemmas.Bool.{eqb-true, eq-eqb}
+use Rattle.std.proofs.lemmas.List.Quantifiers.{position-Some}
+use Rattle.class_reader.specs.declared.class.Method.{Method}
+use Rattle.world.specs.declared.member.MemberId.{MemberId}
+use Rattle.world.specs.declared.access.MethodKind.{MethodKind}
+use Rattle.world.specs.declared.access.MethodKind.TheVariants as kinds
+use Rattle.world.specs.declared.fault.ResolveFault.{ResolveFault}
+use Rattle.world.specs.declared.fault.ResolveFault.TheVariants.{MissingMember, Ambiguous, PackageOverride, AbstractTarget, NotInstance}
+use Rattle.world.specs.Access.{has_kind, is_private, is_no_target}
+use Rattle.world.specs.World.{World, constructor, class_at, superclass, interfaces, line, line_from, above, above_by, superinterfaces, is_below}
+use Rattle.world.specs.Resolution.{first_of, member, is_method, of_kind, method_in, alone, only, interface_method, or_interface, method_from, has_default, is_most_specific}
+use Rattle.world.specs.Selection.{method_of, only_default, inherited, is_package_override, allowed, chosen, selected_by}
+use Rattle.world.specs.Tables.{HasMethod}
+use Rattle.world.proofs.First.{or_true}
+use Rattle.world.proofs.Exploring.{in_either}
+use Rattle.world.proofs.Cycles.{superclass_below, interfaces_below}
+
+-- each number is one of a class
+abbrev pub AreClasses : World → List ℕ → Type 0
+AreClasses w cs = (d : ℕ) → list_any (nat_eq d) cs ≡ true → d < length w
+
+-- ---- heads of lists
+
+or_yes : (a b : Bool) → b ≡ true → (a || b) ≡ true
+or_yes true b h = refl
+or_yes false b h = h
+
+head_in : (x : ℕ) (xs : List ℕ) → list_any (nat_eq x) (x ∷ xs) ≡ true
+head_in x xs = rw (eq-eqb x x refl) refl
+
+tail_in : (b x : ℕ) (xs : List ℕ) → list_any (nat_eq b) xs ≡ true → list_any (nat_eq b) (x ∷ xs) ≡ true
+tail_in b x xs h = or_yes (nat_eq b x) (list_any (nat_eq b) xs) h
+
+first_head : {A : Type 0} (f : ℕ → Option A) (x : ℕ) (xs : List ℕ) (m : A) (o : Option A) → f x ≡ o → option_or o (first_of f xs) ≡ Some m → (first_of f xs ≡ Some m → (y : ℕ) × (list_any (nat_eq y) xs ≡ true) × (f y ≡ Some m)) → (y : ℕ) × (list_any (nat_eq y) (x ∷ xs) ≡ true) × (f y ≡ Some m)
+first_head f x xs m None g e h = let p = h e in (p.0, tail_in p.0 x xs p.1, p.2)
+first_head f x xs m (Some y) g e h = (x, head_in x xs, g ∙ e)
+
+find_head_in : (b : Bool) (d x : ℕ) (xs : List ℕ) (o : Option ℕ) → cond b (Some x) o ≡ Some d → (o ≡ Some d → list_any (nat_eq d) xs ≡ true) → list_any (nat_eq d) (x ∷ xs) ≡ true
+find_head_in true d x xs o e h = let same : x ≡ d = cc in rw (eq-eqb d x (sym same)) refl
+find_head_in false d x xs o e h = tail_in d x xs (h e)
+
+kind_test : (b : Bool) (place i : ℕ) → (if b then Some place else None) ≡ Some i → i ≡ place
+kind_test true place i e = cc
+kind_test false place i e = absurd cc
+
+more_below : (w : World) (c : ℕ) (cs : List ℕ) → c < length w → AreClasses w cs → AreClasses w (c ∷ cs)
+more_below w c cs h k d e =
+    elim (or_true (nat_eq d c) (list_any (nat_eq d) cs) e) [
+      | inl same ↦ rw (eqb-true d c same) h
+      | inr later ↦ k d later
+    ]
+
+none_below : (w : World) → AreClasses w []
+none_below w d e = absurd cc
+
+flat_below : (w : World) (f : ℕ → List ℕ) → ((x : ℕ) → x < length w → AreClasses w (f x)) → (xs : List ℕ) → AreClasses w xs → AreClasses w (flat_map f xs)
+flat_below w f h [] k = none_below w
+flat_below w f h (x ∷ xs) k = λ d e.
+    elim (in_either d (f x) (flat_map f xs) e) [
+      | inl left ↦ h x (k x (head_in x xs)) d left
+      | inr right ↦ flat_below w f h xs (λ b i. k b (tail_in b x xs i)) d right
+    ]
+
+line_below : (w : World) (n : ℕ) (o : Option ℕ) → ((i : ℕ) → o ≡ Some i → i < length w) → AreClasses w (line_from w n o)
+unfolding line_from
+line_below w zero o h = none_below w
+line_below w (suc n) None h = none_below w
+line_below w (suc n) (Some c) h = more_below w c (line_from w n (superclass w c)) (h c refl) (line_below w n (superclass w c) (superclass_below w c))
+
+above_below : (w : World) (n c : ℕ) → AreClasses w (above_by w n c)
+unfolding above_by
+above_below w zero c = none_below w
+above_below w (suc n) c = flat_below w (λ i. i ∷ above_by w n i) (λ x h. more_below w x (above_by w n x) h (above_below w n x)) (interfaces w c) (interfaces_below w c)
+
+pub line_inside : (w : World) (c : ℕ) → c < length w → AreClasses w (line w c)
+line_inside w c h = line_below w (length w) (Some c) (λ i e. let same : c ≡ i = cc in rw (← same) h)
+
+pub superinterfaces_inside : (w : World) (c : ℕ) → c < length w → AreClasses w (superinterfaces w c)
+unfolding superinterfaces
+superinterfaces_inside w c h = flat_below w (above w) (λ x k. above_below w (length w) x) (line w c) (line_inside w c h)
+
+-- ---- the class that answers
+
+first_in : {A : Type 0} (f : ℕ → Option A) (xs : List ℕ) (m : A) → first_of f xs ≡ Some m → (x : ℕ) × (list_any (nat_eq x) xs ≡ true) × (f x ≡ Some m)
+first_in f [] m e = absurd cc
+first_in f (x ∷ xs) m e = first_head f x xs m (f x) refl e (first_in f xs m)
+
+find_in : (p : ℕ → Bool) (xs : List ℕ) (d : ℕ) → find p xs ≡ Some d → list_any (nat_eq d) xs ≡ true
+find_in p [] d e = absurd cc
+find_in p (x ∷ xs) d e = find_head_in (p x) d x xs (find p xs) e (find_in p xs d)
+
+-- ---- methods
+
+kind_place : (kind : MethodKind) (methods : List Method) (place i : ℕ) → of_kind kind methods place ≡ Some i → i ≡ place
+kind_place kind methods place i e = kind_test (option_map_or (λ (method : Method). has_kind kind method.flags) (slice_get methods place) false) place i e
+
+mapped : (c : ℕ) (o : Option ℕ) (m : MemberId) → option_map (member c) o ≡ Some m → (i : ℕ) × (o ≡ Some i) × (member c i ≡ m)
+mapped c None m e = absurd cc
+mapped c (Some i) m e = (i, refl, cc)
+
+method_placed : (w : World) (name desc : List ℕ) (kind : MethodKind) (c : ℕ) (m : MemberId) (o : Option ℕ) → position (is_method name desc) (class_at w c).methods ≡ o → c < length w → option_map (member c) (option_and_then (of_kind kind (class_at w c).methods) o) ≡ Some m → HasMethod w m
+method_placed w name desc kind c m None p h e = absurd cc
+method_placed w name desc kind c m (Some place) p h e =
+    let at = mapped c (of_kind kind (class_at w c).methods place) m e in
+    let same : at.0 ≡ place = kind_place kind (class_at w c).methods place at.0 at.1 in
+    let within : place < length (class_at w c).methods = (position-Some (is_method name desc) (class_at w c).methods place constructor p).0 in
+    rw (← at.2) (h, rw same within)
+
+method_there : (w : World) (name desc : List ℕ) (kind : MethodKind) (c : ℕ) (m : MemberId) → c < length w → method_in w name desc kind c ≡ Some m → HasMethod w m
+unfolding method_in
+method_there w name desc kind c m h e = method_placed w name desc kind c m (position (is_method name desc) (class_at w c).methods) refl h e
+
+pub first_there : (w : World) (name desc : List ℕ) (kind : MethodKind) (xs : List ℕ) (m : MemberId) → AreClasses w xs → first_of (method_in w name desc kind) xs ≡ Some m → HasMethod w m
+first_there w name desc kind xs m h e =
+    let p = first_in (method_in w name desc kind) xs m e in
+    method_there w name desc kind p.0 m (h p.0 p.1) p.2
+
+or_there : (w : World) (o : Option MemberId) (fault : ResolveFault) (m : MemberId) → ((x : MemberId) → o ≡ Some x → HasMethod w x) → ok_or o fault ≡ Ok m → HasMethod w m
+or_there w None fault m h e = absurd cc
+or_there w (Some x) fault m h e = let same : x ≡ m = cc in rw (← same) (h x refl)
+
+chosen_there : (w : World) (b : Bool) (o : Option MemberId) (m : MemberId) → ((x : MemberId) → o ≡ Some x → HasMethod w x) → (if b then Err Ambiguous else ok_or o MissingMember) ≡ Ok m → HasMethod w m
+chosen_there w true o m h e = absurd cc
+chosen_there w false o m h e = or_there w o MissingMember m h e
+
+alone_there : (w : World) (p : ℕ → Bool) (xs : List ℕ) (answer : ℕ → Option MemberId) (otherwise : Result MemberId ResolveFault) (m : MemberId) (o : Option ℕ) → ((d : ℕ) → o ≡ Some d → d < length w) → ((d : ℕ) → d < length w → (x : MemberId) → answer d ≡ Some x → HasMethod w x) → (otherwise ≡ Ok m → HasMethod w m) → alone p xs answer otherwise o ≡ Ok m → HasMethod w m
+alone_there w p xs answer otherwise m None b h k e = k e
+alone_there w p xs answer otherwise m (Some d) b h k e = chosen_there w (list_any (λ x. p x && not (nat_eq d x)) xs) (answer d) m (h d (b d refl)) e
+
+only_there : (w : World) (name desc : List ℕ) (kind : MethodKind) (p : ℕ → Bool) (xs : List ℕ) (otherwise : Result MemberId ResolveFault) (m : MemberId) → AreClasses w xs → (otherwise ≡ Ok m → HasMethod w m) → only p xs (method_in w name desc kind) otherwise ≡ Ok m → HasMethod w m
+only_there w name desc kind p xs otherwise m h k e =
+    alone_there w p xs (method_in w name desc kind) otherwise m (find p xs) (λ d f. h d (find_in p xs d f)) (λ d b x f. method_there w name desc kind d x b f) k e
+
+interface_there : (w : World) (name desc xs : List ℕ) (m : MemberId) → AreClasses w xs → interface_method w name desc xs ≡ Ok m → HasMethod w m
+unfolding interface_method
+interface_there w name desc xs m h e =
+    only_there w name desc kinds.Default (is_most_specific w name desc xs) xs (ok_or (first_of (method_in w name desc kinds.Inherited) xs) MissingMember) m h
+    (or_there w (first_of (method_in w name desc kinds.Inherited) xs) MissingMember m (λ x f. first_there w name desc kinds.Inherited xs x h f))
+    e
+
+default_there : (w : World) (name desc xs : List ℕ) (m : MemberId) → AreClasses w xs → only_default w name desc xs ≡ Ok m → HasMethod w m
+unfolding only_default
+default_there w name desc xs m h e = only_there w name desc kinds.Default (has_default w name desc) xs (Err MissingMember) m h (λ f. absurd cc) e
+
+or_interface_there : (w : World) (o : Option MemberId) (otherwise : Result MemberId ResolveFault) (m : MemberId) → ((x : MemberId) → o ≡ Some x → HasMethod w x) → (otherwise ≡ Ok m → HasMethod w m) → or_interface o otherwise ≡ Ok m → HasMethod w m
+or_interface_there w None otherwise m h k e = k e
+or_interface_there w (Some x) otherwise m h k e = let same : x ≡ m = cc in rw (← same) (h x refl)
+
+pub method_from_there : (w : World) (name desc : List ℕ) (c : ℕ) (m : MemberId) → c < length w → method_from w name desc c ≡ Ok m → HasMethod w m
+unfolding method_from
+method_from_there w name desc c m h e =
+    or_interface_there w (first_of (method_in w name desc kinds.Any) (line w c)) (interface_method w name desc (superinterfaces w c)) m
+    (λ x f. first_there w name desc kinds.Any (line w c) x (line_inside w c h) f)
+    (interface_there w name desc (superinterfaces w c) m (superinterfaces_inside w c h))
+    e
+
+inherited_there : (w : World) (name desc : List ℕ) (c : ℕ) (m : MemberId) → c < length w → inherited w name desc c ≡ Ok m → HasMethod w m
+unfolding inherited
+inherited_there w name desc c m h e =
+    or_interface_there w (first_of (method_in w name desc kinds.Inherited) (line w c)) (only_default w name desc (superinterfaces w c)) m
+    (λ x f. first_there w name desc kinds.Inherited (line w c) x (line_inside w c h) f)
+    (default_there w name desc (superinterfaces w c) m (superinterfaces_inside w c h))
+    e
+
+chosen_is : (w : World) (r : ℕ) (m s : MemberId) (method : Method) (b : Bool) → r < length w → HasMethod w m → (if b then Ok m else inherited w method.name method.desc r) ≡ Ok s → HasMethod w s
+chosen_is w r m s method true h there e = let same : m ≡ s = cc in rw (← same) there
+chosen_is w r m s method false h there e = inherited_there w method.name method.desc r s h e
+
+last_is : (a b c : Bool) (s t : MemberId) → (if a then Err PackageOverride else if b then Err AbstractTarget else if c then Ok s else Err NotInstance) ≡ Ok t → s ≡ t
+last_is true b c s t e = absurd cc
+last_is false true c s t e = absurd cc
+last_is false false true s t e = cc
+last_is false false false s t e = absurd cc
+
+allowed_there : (w : World) (r : ℕ) (m t : MemberId) (o : Result MemberId ResolveFault) → ((s : MemberId) → o ≡ Ok s → HasMethod w s) → allowed w r m o ≡ Ok t → HasMethod w t
+allowed_there w r m t (Err fault) h e = absurd cc
+allowed_there w r m t (Ok s) h e =
+    let same : s ≡ t = last_is (is_package_override w r (method_of w m)) (is_no_target (method_of w s).flags) (is_below w r m.class) s t e in
+    rw (← same) (h s refl)
+
+pub selected_there : (w : World) (m : MemberId) (r : ℕ) (t : MemberId) → r < length w → HasMethod w m → selected_by w m r ≡ Ok t → HasMethod w t
+unfolding selected_by
+selected_there w m r t h there e =
+    allowed_there w r m t (chosen w r m (method_of w m)) (λ s f. chosen_is w r m s (method_of w m) (is_private (method_of w m).flags) h there f) e

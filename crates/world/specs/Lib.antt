@@ -1,0 +1,9 @@
+pub mod Access
+pub mod World
+pub mod Building
+pub mod Resolution
+pub mod Selection
+pub mod Targets
+pub mod Tables
+pub mod Faults
+pub mod Instances

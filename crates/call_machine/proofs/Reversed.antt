@@ -1,0 +1,29 @@
+-- Lists that are seen the other way round.
+use Rattle.std.proofs.Common.{◌≡◌, ℕ, ◌-◌, ◌≤◌, List, ◌++◌, length, take, drop, reverse, sym, ◌∙◌, ap, arith}
+use Rattle.std.proofs.lemmas.List.{reverse-append, reverse-reverse, take-append-drop, take-append-le, take_all, length-reverse, length-drop}
+use Rattle.std.proofs.Math.Seq.{drop-append_seam}
+
+-- a list the other way round, in two parts
+parts : {X : Type 0} (xs : List X) (n : ℕ) → reverse xs ≡ reverse (drop (length xs - n) xs) ++ reverse (take (length xs - n) xs)
+parts xs n = ap reverse (sym (take-append-drop (length xs - n) xs)) ∙ reverse-append (take (length xs - n) xs) (drop (length xs - n) xs)
+
+long : {X : Type 0} (xs : List X) (n : ℕ) → n ≤ length xs → length (reverse (drop (length xs - n) xs)) ≡ n
+long xs n within = omega (arith, length-reverse (drop (length xs - n) xs), length-drop (length xs - n) xs)
+
+-- without the last so many values, the other way round
+pub reverse-take : {X : Type 0} (xs : List X) (n : ℕ) → n ≤ length xs → reverse (take (length xs - n) xs) ≡ drop n (reverse xs)
+reverse-take {X} xs n within =
+    let front : List X = reverse (drop (length xs - n) xs) in
+    let back : List X = reverse (take (length xs - n) xs) in
+    sym (ap (drop n) (parts xs n) ∙ ap (λ (m : ℕ). drop m (front ++ back)) (sym (long xs n within)) ∙ drop-append_seam front back)
+
+-- the last so many values, as they are
+pub reverse-take-reverse : {X : Type 0} (xs : List X) (n : ℕ) → n ≤ length xs → reverse (take n (reverse xs)) ≡ drop (length xs - n) xs
+reverse-take-reverse {X} xs n within =
+    let front : List X = reverse (drop (length xs - n) xs) in
+    let back : List X = reverse (take (length xs - n) xs) in
+    let cut : take n (front ++ back) ≡ take n front = take-append-le n front back (omega (arith, long xs n within)) in
+    let whole : take n front ≡ front = take_all n front (omega (arith, long xs n within)) in
+    ap reverse (ap (take n) (parts xs n) ∙ cut ∙ whole) ∙ reverse-reverse (drop (length xs - n) xs)
+
+pub ruleset ends = (reverse-take, reverse-take-reverse, reverse-append, length-reverse)

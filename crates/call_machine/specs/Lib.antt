@@ -1,0 +1,12 @@
+pub mod Numbers
+pub mod Words
+pub mod Types
+pub mod Heap
+pub mod Outcome
+pub mod Computing
+pub mod Calling
+pub mod Step
+pub mod Row
+pub mod Entry
+pub mod Run
+pub mod Moment

@@ -284,18 +284,25 @@ fn edited(alloc: Global, edits: &str) -> Result<Vec<u8>, AllocError> {
 }
 
 /// On each line edits of the class file `P`, and behind a `=` the report: magic; version; tags, indices and
-/// texts of the pool; this class; descriptor; code where none may be, missing, and without instructions; a
-/// method twice; the built-in class; a byte more; and besides an exception table, and a method without code.
+/// texts of the pool; this class; descriptor; code where none may be, missing, and without instructions; an
+/// attribute that is cut; a method twice; the built-in class; a byte more; and besides an exception table, and a
+/// method without code.
 const EDITS: &str = "\
 0001cb=bad class 3 0 magic
 06020042=bad class 3 6 version
+0a0102=bad class 3 10 tag
 0e0102=bad class 3 14 tag
+100102=bad class 3 14 index
 100109=bad class 3 14 index
 0d0100=bad class 3 10 utf8
 3f0101=bad class 3 62 index
 340178=bad class 3 76 descriptor
+4d0105=bad class 3 76 descriptor
 480101=bad class 3 80 code
 4f0100=bad class 3 72 code
+510105=bad class 3 72 code
+5d0100=bad class 3 80 code
+5201ff=bad class 3 104 short
 55010c+5d0100+5e04=bad class 3 80 code
 470102+6600000900050006000100070000001000020002000000041a1b60ac00000000=bad class 3 102 repeated
 3f0104=bad class 3 62 reserved

@@ -1,8 +1,7 @@
 -- Fields and methods: what passes is in the grammar, and what is in it passes.
-use Rattle.std.proofs.Common.{◌≡◌, ◌↔◌, ℕ, ◌^◌, ◌<◌, Bool, true, false, not, List, [], ◌∷◌, ◌++◌, length, Option, Some, None, refl, sym, ap, subst, ◌∙◌, append_assoc}
+use Rattle.std.proofs.Common.{◌≡◌, ◌↔◌, ℕ, ◌^◌, ◌<◌, Bool, true, false, not, List, [], ◌∷◌, ◌++◌, length, Option, Some, refl, sym, ap, subst, ◌∙◌, append_assoc}
 use Rattle.std.specs.List.{list_any}
-use Rattle.std.proofs.lemmas.Bool.{eqb-true, not-false}
-use Rattle.std.proofs.lemmas.List.{append-nil, nil_from_length}
+use Rattle.std.proofs.lemmas.Bool.{not-false}
 use Rattle.byteorder.specs.Endian.{big_bytes}
 use Rattle.class_pool.specs.declared.constant.Constant.{Constant}
 use Rattle.class_pool.specs.Place.{Place, IsBytes}
@@ -16,12 +15,11 @@ use Rattle.class_reader.specs.declared.fault.ClassFault.{ClassFault}
 use Rattle.class_reader.specs.declared.fault.ClassFault.TheVariants.{BadDesc, Repeated}
 use Rattle.class_reader.specs.Met.{Met, Passes, times, pushed, times_at}
 use Rattle.class_reader.specs.Flags.{is_static}
-use Rattle.class_reader.specs.Descriptor.{IsFieldDescriptor, type_text}
-use Rattle.class_reader.specs.DescriptorReading.{type_from, is_last, is_field, describes}
+use Rattle.class_reader.specs.Descriptor.{IsFieldDescriptor}
+use Rattle.class_reader.specs.DescriptorReading.{is_field, describes}
 use Rattle.class_reader.specs.ClassReading.{fault_if, or_empty, skipped_at, has_code, Head, Members, descriptor_faults, descriptor_at, is_pair, is_repeated, with_member, member_at, field_at, code_given_at, method_at, members_at}
 use Rattle.class_reader.specs.ClassFile.{IsIndex, IsAttribute, HasCode, IsField, IsMethod, AreDistinct, field_pairs, method_pairs}
-use Rattle.class_reader.proofs.Types.{found as typed, field_found}
-use Rattle.class_reader.proofs.Parameters.{field_takes}
+use Rattle.class_reader.proofs.Parameters.{type_is_field, field_is_type}
 use Rattle.class_reader.proofs.Describes.{describes_decided}
 use Rattle.class_reader.proofs.MetLaws.{stepped, steps, carried, spanned, starts, joined, middle_of, first_of_two, second_of_two, rewritten, IsReader, took, takes_first, takes_last, num_reader}
 use Rattle.class_reader.proofs.TimesLaws.{ReadsFrom, Chain, many_take, many_again, chain_each, each_chain, counted_made}
@@ -31,18 +29,8 @@ use Rattle.class_reader.proofs.DistinctLaws.{Pair, NotAmong, not_among, none_amo
 
 -- ---- descriptors
 
-last_is : (read : Option (ℕ × List ℕ)) → is_last read ≡ true → (words : ℕ) × (read ≡ typed words [])
-last_is None h = absurd cc
-last_is (Some r) h = (r.0, ap (λ (rest : List ℕ). typed r.0 rest) (nil_from_length r.1 (eqb-true (length r.1) 0 h)))
-
 field_decided : (desc : List ℕ) → (is_field desc ≡ true) ↔ IsFieldDescriptor desc
-field_decided desc = (
-  λ h.
-      let last = last_is (type_from 0 desc) h in
-      let read = field_takes desc last.0 [] last.1 in
-      record { type = read.type; parts = read.parts ∙ append-nil (type_text read.type); fits = read.is },
-  λ d. ap is_last (ap (type_from 0) (d.parts ∙ sym (append-nil (type_text d.type))) ∙ field_found d.type [] d.fits),
-)
+field_decided desc = (type_is_field desc, field_is_type desc)
 
 -- the index of a text that passes the test
 abbrev IsDescribed : (List ℕ → Bool) → List (Option Constant) → List ℕ → Option (List ℕ) → Type 0

@@ -15,7 +15,7 @@ use std::collections::BTreeSet;
 use std::marker::Model;
 
 /// What a class declares.
-#[derive(Clone, Copy, Debug, PartialEq, Eq)]
+#[derive(Clone, Copy)]
 pub(crate) enum MemberKind {
     Field,
     Method,

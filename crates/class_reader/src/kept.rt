@@ -12,7 +12,7 @@ use std::alloc::{AllocError, AllocFailed};
 use std::marker::Model;
 
 /// Why reading stopped.
-#[derive(Clone, Copy, Debug, PartialEq, Eq)]
+#[derive(Clone, Copy)]
 pub(crate) enum Cut {
     /// Too few bytes are left.
     Short,

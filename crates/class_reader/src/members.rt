@@ -19,7 +19,7 @@ use class_pool::{Cursor, Pool, Sequence, Text};
 use std::alloc::{AllocError, Global};
 
 /// The flags of a member, and the indices of its name and its descriptor.
-#[derive(Clone, Copy, Debug)]
+#[derive(Clone, Copy)]
 struct MemberHead {
     flags: u16,
     name: u16,

@@ -58,7 +58,7 @@ fn read_head(cursor: &mut Cursor<'_>, kept: &mut Kept) -> Result<u16, Cut>
 }
 
 /// The flags of a class, and the names of it and its superclass.
-#[derive(Debug, Drop)]
+#[derive(Drop)]
 struct ClassNames {
     flags: u16,
     /// Where the index of this class stands.
@@ -124,7 +124,7 @@ fn read_interfaces(
 }
 
 /// What stands behind the pool.
-#[derive(Debug, Drop)]
+#[derive(Drop)]
 struct ClassBody {
     names: ClassNames,
     interfaces: Sequence<Text>,

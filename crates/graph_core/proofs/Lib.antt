@@ -3,6 +3,7 @@ pub mod Rows
 pub mod Orders
 pub mod Trails
 pub mod Walks
+pub mod Starts
 pub mod Turns
 pub mod Marks
 pub mod LoopLaws
@@ -10,3 +11,6 @@ pub mod Reach
 pub mod Spreads
 pub mod Chains
 pub mod AvoidLaws
+pub mod Rounds
+pub mod Gatherings
+pub mod MarkedLists

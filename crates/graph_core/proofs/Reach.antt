@@ -76,7 +76,7 @@ module _ (g : List (List ℕ)) (c n : ℕ) (marks : List Bool) (w : MarksTo g c 
         marked = λ x l. marked_more x l (cases_eq x n);
       }
 
-leads_within : (g : List (List ℕ)) → EndsAtNodes g → (rest : List ℕ) (c w : ℕ) → c < length g → Leads g c rest w → w < length g
+pub leads_within : (g : List (List ℕ)) → EndsAtNodes g → (rest : List ℕ) (c w : ℕ) → c < length g → Leads g c rest w → w < length g
 leads_within g ends [] c w l e = omega arith
 leads_within g ends (x ∷ rest) c w l h = leads_within g ends rest x w (ends c x h.0) h.1
 

@@ -9,3 +9,7 @@ pub mod Components
 pub mod Distances
 pub mod Cycles
 pub mod Covers
+pub mod Leaving
+pub mod Numbers
+pub mod Gathered
+pub mod MarkLists

@@ -20,6 +20,13 @@ impl Model for Loop {
 }
 
 impl Loop {
+    /// The loop with this entry and these nodes.
+    pub fn new(entry: u32, nodes: Vec<u32>) -> Self
+        ensures { result ≡ record { entry = entry; nodes = nodes.items } }
+    {
+        Loop { entry, nodes }
+    }
+
     /// The node at which the loop is entered.
     pub fn entry(&self) -> u32
         ensures { result ≡ self.now.entry }
@@ -51,6 +58,13 @@ impl Model for Nest {
 }
 
 impl Nest {
+    /// These loops.
+    pub fn new(loops: Vec<Loop>) -> Self
+        ensures { result ≡ loops.items }
+    {
+        Nest { loops }
+    }
+
     /// The loops, in the order of their entries.
     pub fn loops(&self) -> &[Loop]
         ensures { result.now ≡ self.now }

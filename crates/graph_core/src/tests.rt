@@ -2,7 +2,7 @@ ghost use Rattle.std.specs.Prelude.{◌≡◌, length, IfOk};
 
 use super::*;
 use crate::cover::CoverFault;
-use crate::loops::{Loop, NestFault};
+use crate::loops::{Loop, Nest, NestFault};
 use std::alloc::{AllocError, Global};
 use std::test::Fail;
 
@@ -42,7 +42,11 @@ fn loops_digest(digest: u32, loops: &[Loop]) -> u32 {
 /// The digest with the loops of one graph more, or with its two entries.
 fn nest_digest(alloc: Global, digest: u32, bits: u32) -> Result<u32, NestFault> {
     let g = graph_of(alloc, bits)?;
-    match nest(alloc, &g, 0) {
+    told_digest(digest, nest(alloc, &g, 0))
+}
+
+fn told_digest(digest: u32, told: Result<Nest, NestFault>) -> Result<u32, NestFault> {
+    match told {
         Ok(nest) => Ok(loops_digest(digest, nest.loops())),
         Err(NestFault::TwoEntries { a, b }) => {
             Ok(mix(digest, a.wrapping_mul(10).wrapping_add(b).wrapping_add(100)))
@@ -89,5 +93,19 @@ fn covers_of_graphs_of_four_nodes(rt: HostRuntime) -> Result<(), Fail> {
         digest = covers_digest(rt.alloc(), digest, step * 21 + 7)?;
     }
     assert_eq!(rt; digest, 898_654_778);
+    Ok(())
+}
+
+/// The graph of four nodes 0 -> 1 -> 2 -> 1 and 2 -> 3 has three components, callees first.
+#[test]
+fn components_have_callees_first(rt: HostRuntime) -> Result<(), Fail> {
+    let mut g = Graph::new(rt.alloc(), 4)?;
+    g.add(0, 1)?;
+    g.add(1, 2)?;
+    g.add(2, 1)?;
+    g.add(2, 3)?;
+    let found = components(rt.alloc(), &g)?;
+    assert_eq!(rt; found.as_slice(), &[2, 1, 1, 0][..]);
+    assert_eq!(rt; found.of(0), 2);
     Ok(())
 }

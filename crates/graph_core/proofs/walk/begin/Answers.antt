@@ -1,7 +1,7 @@
 use Rattle.std.proofs.Common.{List, ℕ, subst, sym}
 use Rattle.graph_core.specs.Search.{Found}
 use Rattle.graph_core.specs.Walk.{IsWalk}
-use Rattle.graph_core.proofs.Walks.{IsWalk-begin, root_alone}
+use Rattle.graph_core.proofs.Starts.{IsWalk-begin, root_alone}
 use Rattle.graph_core.proofs.walk.begin.Goals as goal
 
 pub returns-clause-walk : goal.returns-clause-walk

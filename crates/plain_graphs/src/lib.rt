@@ -1,0 +1,15 @@
+//! Paths, loops and covers of small graphs by looking through all lists of nodes without repeat, as the
+//! definitions read. Slow: to compare with.
+#![tactic(auto)]
+
+mod circling;
+mod covering;
+mod listing;
+mod looping;
+mod trunks;
+
+pub use covering::covers;
+pub use looping::{first_path, nest};
+
+#[cfg(test)]
+mod tests;

@@ -1,6 +1,5 @@
 use super::*;
-use op_table::Op;
-use op_table::decoding::decode;
+use op_table::{Op, decode};
 use std::test::Fail;
 
 #[test]

@@ -1,4 +1,3 @@
-pub mod Lengths
 pub mod Rising
 pub mod SwitchCases
 pub mod Agreeing

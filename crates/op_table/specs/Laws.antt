@@ -1,20 +1,13 @@
--- What the table says of lengths.
+-- What instructions, switches and actions keep.
 use Rattle.std.specs.Prelude.{◌≡◌, ℕ, ◌+◌, ◌<◌, ◌≤◌, ◌<ℤ◌, List, length, slice_index, Some, Ok}
-use Rattle.op_table.specs.declared.action.Instruction.{Instruction}
 use Rattle.op_table.specs.declared.acts.Action.TheVariants.{Outside}
 use Rattle.op_table.specs.declared.construct.Construct.{Construct}
 use Rattle.op_table.specs.declared.construct.Support.TheVariants.{No}
 use Rattle.op_table.specs.declared.instr.Instr.{Instr}
-use Rattle.op_table.specs.Instructions.{instruction_at}
 use Rattle.op_table.specs.Cases.{case_at, cases_of}
 use Rattle.op_table.specs.Grammar.{instr_at}
 use Rattle.op_table.specs.Support.{support_of}
 use Rattle.op_table.specs.Actions.{action_of}
-
--- an instruction takes a byte at least, and stands within the code
-abbrev pub InstructionsFit : Type 0
-InstructionsFit =
-    (code : List ℕ) (pc : ℕ) (i : Instruction) → instruction_at code pc ≡ Some i → (1 ≤ i.length) × (pc + i.length ≤ length code)
 
 -- an instruction takes a byte at least, and stands within the code
 abbrev pub InstrsFit : Type 0

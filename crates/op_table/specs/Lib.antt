@@ -1,4 +1,3 @@
-pub mod Instructions
 pub mod Construct
 pub mod Laws
 pub mod Layouts

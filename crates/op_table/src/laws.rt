@@ -1,9 +1,4 @@
-ghost use Rattle.op_table.specs.Laws.{CasesRise, InstructionsFit, InstrsAreDetermined, InstrsFit, OnlyOutsideIsOutside};
-
-/// A law of the table: each instruction takes a byte at least, and stands within the code.
-pub fn instructions_fit()
-    ensures { InstructionsFit }
-{}
+ghost use Rattle.op_table.specs.Laws.{CasesRise, InstrsAreDetermined, InstrsFit, OnlyOutsideIsOutside};
 
 /// A law of the instructions: each takes a byte at least, and stands within the code.
 pub fn instrs_fit()

@@ -1,10 +1,11 @@
 -- Classes with few members.
-use Rattle.std.proofs.Common.{◌≡◌, ℕ, zero, suc, ◌<◌, ◌^◌, Bool, true, false, ◌&&◌, nat_lt, List, [], ◌∷◌, length, arith, refl}
+use Rattle.std.proofs.Common.{◌≡◌, Option, ℕ, zero, suc, ◌<◌, ◌^◌, true, nat_lt, List, [], ◌∷◌, length, arith}
 use Rattle.std.specs.List.{list_all, slice_index_or}
 use Rattle.std.proofs.lemmas.Bool.{and_parts, ltb-true}
 use Rattle.class_reader.specs.declared.class.ClassRecord.{ClassRecord}
-use Rattle.world.specs.World.{World, object_class, class_at}
-use Rattle.world.specs.Tables.{HasFew, IsCounted, has_few}
+use Rattle.world.specs.World.{object_class, class_at}
+use Rattle.world.specs.Tables.{HasFew, IsNumbered, has_few}
+use Rattle.world.specs.Names.{AreNumbers}
 
 few_told : (class : ClassRecord) → has_few class ≡ true → HasFew class
 few_told class h =
@@ -23,5 +24,5 @@ few_all : (object : ClassRecord) (files : List ClassRecord) → object ≡ objec
 few_all object files e h zero = rw e few_built_in
 few_all object files e h (suc k) = few_at files h k
 
-pub counted : (object : ClassRecord) (files : List ClassRecord) → object ≡ object_class → length files < 2 ^ 31 → list_all has_few files ≡ true → IsCounted object files
-counted object files e few h = record { built_in = e; few = few; few_members = few_all object files e h }
+pub numbered : (object : ClassRecord) (files : List ClassRecord) (numbers : List ℕ → Option ℕ) → object ≡ object_class → length files < 2 ^ 31 → list_all has_few files ≡ true → AreNumbers (object ∷ files) numbers → IsNumbered object files numbers
+numbered object files numbers e few h n = record { built_in = e; few = few; few_members = few_all object files e h; numbered = n }

@@ -1,21 +1,23 @@
 -- Classes that lead back to themselves.
-use Rattle.std.proofs.Common.{◌≡◌, ◌⊎◌, ◌↔◌, inl, inr, ℕ, suc, ◌+◌, ◌<◌, ◌≤◌, Bool, true, false, List, [], ◌∷◌, ◌++◌, length, Option, Some, None, arith, refl, sym, ap, ◌∙◌, nat_eq}
-use Rattle.std.specs.Prelude.{IsTrue}
+use Rattle.std.proofs.Common.{◌≡◌, inl, inr, ℕ, ◌<◌, true, false, List, [], ◌∷◌, length, Option, Some, None, refl, sym, nat_eq}
+use Rattle.std.specs.Prelude.{IfSome}
 use Rattle.std.specs.Option.{option_and_then, option_to_list}
-use Rattle.std.specs.List.{list_any, filter_map, cons_option, position}
-use Rattle.std.proofs.lemmas.Bool.{eqb-true, cases_lt}
+use Rattle.std.specs.List.{list_any, filter_map, cons_option}
+use Rattle.std.proofs.lemmas.Bool.{eqb-true}
 use Rattle.std.proofs.lemmas.List.Quantifiers.{position-Some}
 use Rattle.world.specs.World.{World, object_class, is_named, number_of, class_at, superclass, interfaces}
-use Rattle.world.specs.Building.{LeadsTo, IsCyclic, supers}
+use Rattle.world.specs.Building.{LeadsTo, supers}
 use Rattle.world.specs.Building.LeadsTo.{once, through}
-use Rattle.world.specs.Tables.{row_at, AreInside, AreReached, AreSupers}
 use Rattle.world.proofs.First.{or_true}
-use Rattle.world.proofs.Rows.{no_supers_past}
 use Rattle.world.proofs.Exploring.{in_either}
 
-number_below : (w : World) (name : List ℕ) (i : ℕ) → number_of w name ≡ Some i → i < length w
+pub number_below : (w : World) (name : List ℕ) (i : ℕ) → number_of w name ≡ Some i → i < length w
 unfolding number_of
 number_below w name i e = (position-Some (is_named name) w i object_class e).0
+
+pub number_bound : (w : World) (name : List ℕ) (o : Option ℕ) → o ≡ number_of w name → IfSome o (λ c. c < length w)
+number_bound w name None e = tt
+number_bound w name (Some i) e = number_below w name i (sym e)
 
 listed_below : (n : ℕ) (o : Option ℕ) → ((i : ℕ) → o ≡ Some i → i < n) → (d : ℕ) → list_any (nat_eq d) (option_to_list o) ≡ true → d < n
 listed_below n None h d e = absurd cc
@@ -49,7 +51,7 @@ pub interfaces_below : (w : World) (c d : ℕ) → list_any (nat_eq d) (interfac
 unfolding interfaces
 interfaces_below w c d e = names_below w (class_at w c).interfaces d e
 
-supers_below : (w : World) (c d : ℕ) → list_any (nat_eq d) (supers w c) ≡ true → d < length w
+pub supers_below : (w : World) (c d : ℕ) → list_any (nat_eq d) (supers w c) ≡ true → d < length w
 unfolding supers
 supers_below w c d e =
     elim (in_either d (option_to_list (superclass w c)) (interfaces w c) e) [
@@ -57,25 +59,6 @@ supers_below w c d e =
       | inr right ↦ interfaces_below w c d right
     ]
 
-pub supers_inside : (w : World) (rows : List (List ℕ)) → AreSupers w rows → AreInside rows
-supers_inside w rows h c d e = rw h.0 (supers_below w c d (rw (h.1 c) at e))
-
-leads_same : (f g : ℕ → List ℕ) → ((c : ℕ) → f c ≡ g c) → (c d : ℕ) → LeadsTo f c d → LeadsTo g c d
-leads_same f g h c d (once e) = once (ap (λ l. list_any (nat_eq d) l) (sym (h c)) ∙ e)
-leads_same f g h c d (through {d = b} e more) = through (ap (λ l. list_any (nat_eq b) l) (sym (h c)) ∙ e) (leads_same f g h b d more)
-
-pub back_by : (w : World) (rows : List (List ℕ)) (c : ℕ) (found : List ℕ) (told : Bool) → AreSupers w rows → AreReached rows c found → told ≡ list_any (nat_eq c) found → IsTrue told ↔ IsCyclic w c
-back_by w rows c found told h r e = (
-  λ yes. leads_same (row_at rows) (supers w) h.1 c c ((r c).0 (sym e ∙ yes)),
-  λ l. e ∙ (r c).1 (leads_same (supers w) (row_at rows) (λ b. sym (h.1 b)) c c l),
-)
-
-no_step : (w : World) (c d e : ℕ) → supers w c ≡ [] → LeadsTo (supers w) c e → ⊥
+pub no_step : (w : World) (c d e : ℕ) → supers w c ≡ [] → LeadsTo (supers w) c e → ⊥
 no_step w c d e none (once {d = b} h) = let never : list_any (nat_eq b) [] ≡ true = rw none at h in cc
 no_step w c d e none (through {d = b} h more) = let never : list_any (nat_eq b) [] ≡ true = rw none at h in cc
-
-pub no_cycles : (w : World) (n : ℕ) → length w ≤ n → ((d : ℕ) → d < n → ¬ IsCyclic w d) → (c : ℕ) → ¬ IsCyclic w c
-no_cycles w n le h c back = elim (cases_lt c n) [
-  | inl lt ↦ h c lt back
-  | inr past ↦ no_step w c c c (no_supers_past w c (omega arith)) back
-]

@@ -10,7 +10,7 @@ use Rattle.world.specs.declared.fault.ResolveFault.TheVariants.{MissingMember, A
 use Rattle.world.specs.declared.access.MethodKind.TheVariants as kinds
 use Rattle.world.specs.World.{World, line, above, superinterfaces, ancestors}
 use Rattle.world.specs.Building.{first_number}
-use Rattle.world.specs.Resolution.{first_of, method_in, has_default, is_overridden, is_most_specific, alone, only, interface_method, field_in, field_from, method_from}
+use Rattle.world.specs.Resolution.{first_of, method_in, has_default, is_most_specific, alone, only, interface_method, field_in, field_from, method_from}
 use Rattle.world.specs.Tables.{SameFirst, Tells}
 
 -- ---- loops

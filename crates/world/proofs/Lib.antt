@@ -9,3 +9,9 @@ pub mod Cycles
 pub mod Counts
 pub mod There
 pub mod Instancing
+pub mod Targeting
+pub mod WellBuilt
+pub mod Names
+pub mod Ranking
+pub mod Ordering
+pub mod Short

@@ -1,14 +1,13 @@
 -- What is selected.
-use Rattle.std.proofs.Common.{◌≡◌, ◌⊎◌, inl, inr, ℕ, zero, suc, ◌+◌, ◌-◌, ◌<◌, ◌≤◌, Bool, true, false, ◌&&◌, ◌||◌, not, if◌then◌else◌, List, [], ◌∷◌, length, drop, take, get_or, Option, Some, None, arith, cond, refl, sym, ap, ◌∙◌, nat_eq, add-one, drop-cons}
-use Rattle.std.specs.Prelude.{find, Result, Ok, Err}
-use Rattle.std.specs.Option.{option_or, ok_or}
+use Rattle.std.proofs.Common.{◌≡◌, ℕ, zero, suc, ◌-◌, ◌<◌, ◌≤◌, Bool, true, false, ◌||◌, List, [], ◌∷◌, length, drop, take, get_or, Some, None, arith, refl, sym, ap, ◌∙◌, nat_eq}
+use Rattle.std.specs.Prelude.{Result, Ok, Err}
 use Rattle.std.specs.List.{list_any}
 use Rattle.world.specs.declared.member.MemberId.{MemberId}
 use Rattle.world.specs.declared.access.MethodKind.TheVariants as kinds
 use Rattle.world.specs.declared.fault.ResolveFault.{ResolveFault}
 use Rattle.world.specs.declared.fault.ResolveFault.TheVariants.{MissingMember}
 use Rattle.world.specs.World.{World, line, superinterfaces}
-use Rattle.world.specs.Resolution.{first_of, method_in, has_default, only}
+use Rattle.world.specs.Resolution.{first_of, method_in, has_default}
 use Rattle.world.specs.Selection.{package_of, only_default, inherited}
 use Rattle.world.specs.Tables.{SameFirst, Tells}
 use Rattle.world.proofs.Finding.{tells_self, only_same}

@@ -1,5 +1,5 @@
 -- What keeps classes from being a world.
-use Rattle.std.specs.Prelude.{◌≡◌, ℕ, zero, suc, ◌<◌, ◌++◌, nat_lt, nat_eq, Bool, true, false, not, List, [], length, Option, Some, None, is_none, if◌then◌else◌, find}
+use Rattle.std.specs.Prelude.{◌≡◌, ℕ, zero, suc, ◌<◌, ◌++◌, nat_lt, nat_eq, Bool, true, false, not, List, length, Option, Some, None, is_none, if◌then◌else◌, find}
 use Rattle.std.specs.Option.{option_map, option_map_or, option_or, option_to_list}
 use Rattle.std.specs.List.{list_any}
 use Rattle.class_reader.specs.declared.class.ClassRecord.{ClassRecord}

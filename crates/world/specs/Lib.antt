@@ -7,3 +7,7 @@ pub mod Targets
 pub mod Tables
 pub mod Faults
 pub mod Instances
+pub mod Collecting
+pub mod Names
+pub mod Ranks
+pub mod Orders

@@ -1,5 +1,5 @@
 -- Which method runs on a receiver (after JVMS 5.4.6).
-use Rattle.std.specs.Prelude.{ℕ, Bool, List, [], ◌∷◌, ◌++◌, Option, Some, None, Result, Ok, Err, is_some, nat_eq, not, ◌&&◌, ◌||◌, ◌==◌, if◌then◌else◌, slice_index_or}
+use Rattle.std.specs.Prelude.{ℕ, Bool, List, [], ◌∷◌, Result, Ok, Err, is_some, nat_eq, not, ◌&&◌, if◌then◌else◌, slice_index_or}
 use Rattle.std.specs.List.{list_any}
 use Rattle.std.specs.Str.{bytes_eq}
 use Rattle.class_reader.specs.declared.class.Method.{Method}

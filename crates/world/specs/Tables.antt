@@ -1,12 +1,14 @@
 -- Tables of what stands above each class.
-use Rattle.std.specs.Prelude.{◌≡◌, ◌≢◌, ◌↔◌, Result, Ok, Err, Option, Some, None, ℕ, ◌<◌, ◌^◌, Bool, true, List, [], ◌∷◌, ◌++◌, length, find, nat_eq, nat_lt, ◌&&◌, slice_index_or}
-use Rattle.std.specs.List.{flat_map, list_any, IsDistinct}
+use Rattle.std.specs.Prelude.{◌≡◌, ◌≢◌, Result, Ok, Err, Option, IfSome, ℕ, ◌<◌, ◌≤◌, ◌^◌, Bool, List, [], ◌∷◌, ◌++◌, length, find, nat_eq, nat_lt, ◌&&◌, slice_index_or}
+use Rattle.std.specs.List.{IsDistinct}
 use Rattle.class_reader.specs.declared.class.ClassRecord.{ClassRecord}
+use Rattle.class_reader.specs.declared.class.Method.{Method}
 use Rattle.world.specs.declared.member.MemberId.{MemberId}
 use Rattle.world.specs.declared.fault.ResolveFault.{ResolveFault}
 use Rattle.world.specs.declared.fault.ResolveFault.TheVariants.{Memory}
 use Rattle.world.specs.World.{World, object_class, class_at, interfaces, above_by}
-use Rattle.world.specs.Building.{IsWellBuilt, LeadsTo, IsCyclic, supers}
+use Rattle.world.specs.Names.{AreNumbers}
+use Rattle.world.specs.Building.{IsWellBuilt}
 
 -- two lists have the same first element for each test: the same elements, in order but for repeats
 pub record SameFirst (xs ys : List ℕ) : Type 0 where
@@ -32,10 +34,6 @@ AreLinks w links = (length links ≡ length w) × ((c : ℕ) → row_at links c 
 abbrev pub AreRows : World → ℕ → List (List ℕ) → Type 0
 AreRows w n rows = (length rows ≡ length w) × ((c : ℕ) → SameFirst (row_at rows c) (above_by w n c))
 
--- one name more
-abbrev pub IsRound : List (List ℕ) → List (List ℕ) → List (List ℕ) → Type 0
-IsRound links rows next = (length next ≡ length links) × ((c : ℕ) → SameFirst (row_at next c) (flat_map (with_row rows) (row_at links c)))
-
 -- few enough for their numbers
 abbrev pub HasFew : ClassRecord → Type 0
 HasFew class = (length class.fields < 2 ^ 32) × (length class.methods < 2 ^ 32)
@@ -43,10 +41,12 @@ HasFew class = (length class.fields < 2 ^ 32) × (length class.methods < 2 ^ 32)
 abbrev pub has_few : ClassRecord → Bool
 has_few class = nat_lt (length class.fields) 4294967296 && nat_lt (length class.methods) 4294967296
 
-pub record IsCounted (object : ClassRecord) (files : List ClassRecord) : Type 0 where
+-- the class that is built in and those of files, with their numbers by name
+pub record IsNumbered (object : ClassRecord) (files : List ClassRecord) (numbers : List ℕ → Option ℕ) : Type 0 where
   pub built_in : object ≡ object_class
   pub few : length files < 2 ^ 31
   pub few_members : (c : ℕ) → HasFew (class_at (object ∷ files) c)
+  pub numbered : AreNumbers (object ∷ files) numbers
 
 -- what a world keeps beside its classes
 pub record IsWorld (w : World) (rows : List (List ℕ)) : Type 0 where
@@ -60,26 +60,11 @@ HasField w m = (m.class < length w) × (m.member < length (class_at w m.class).f
 abbrev pub HasMethod : World → MemberId → Type 0
 HasMethod w m = (m.class < length w) × (m.member < length (class_at w m.class).methods)
 
+-- the code of the method, if it has one, takes at most 65,535 bytes (JVMS 4.7.3)
+abbrev pub HasShortCode : Method → Type 0
+HasShortCode method = IfSome method.code (λ code. length code.bytes ≤ 65535)
+
 -- what a call answers is this, unless memory runs out
 abbrev pub Tells : {A : Type 0} → Result A ResolveFault → Result A ResolveFault → Type 0
 Tells (Ok x) answer = answer ≡ Ok x
 Tells (Err fault) answer = fault ≢ Memory → answer ≡ Err fault
-
--- ---- what names lead to
-
--- each row has numbers of rows
-abbrev pub AreInside : List (List ℕ) → Type 0
-AreInside rows = (c d : ℕ) → list_any (nat_eq d) (row_at rows c) ≡ true → d < length rows
-
--- all that the rows lead to from a class
-abbrev pub AreReached : List (List ℕ) → ℕ → List ℕ → Type 0
-AreReached rows c found = (d : ℕ) → (list_any (nat_eq d) found ≡ true) ↔ LeadsTo (row_at rows) c d
-
--- a row for each class has its superclass and its superinterfaces
-abbrev pub AreSupers : World → List (List ℕ) → Type 0
-AreSupers w rows = (length rows ≡ length w) × ((c : ℕ) → row_at rows c ≡ supers w c)
-
--- the first class that leads back to itself, or none does
-abbrev pub FindsCycle : World → Option ℕ → Type 0
-FindsCycle w None = (c : ℕ) → ¬ IsCyclic w c
-FindsCycle w (Some c) = (c < length w) × IsCyclic w c × ((d : ℕ) → d < c → ¬ IsCyclic w d)

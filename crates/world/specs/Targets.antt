@@ -2,12 +2,11 @@
 use Rattle.std.specs.Prelude.{◌≡◌, ◌≢◌, ℕ, ◌<◌, ◌≤◌, Bool, IsTrue, ◌&&◌, ◌↔◌, List, length, Option, Some, None, Result, Ok, Err, Contains, AllPairs}
 use Rattle.std.specs.Ordering.{nat_cmp}
 use Rattle.std.specs.Cmp.Lexicographic.{slice_cmp}
-use Rattle.std.specs.declared.cmp.Ordering.{Ordering}
 use Rattle.std.specs.declared.cmp.Ordering.TheVariants.{Less}
 use Rattle.world.specs.declared.member.MemberId.{MemberId}
 use Rattle.world.specs.declared.fault.ResolveFault.{ResolveFault}
 use Rattle.world.specs.declared.fault.ResolveFault.TheVariants.{MissingClass, MissingMember, Ambiguous, PackageOverride, AbstractTarget, NotInstance, Memory}
-use Rattle.world.specs.World.{World, class_at, number_of, is_below, is_instantiable}
+use Rattle.world.specs.World.{World, class_at, is_below, is_instantiable}
 use Rattle.world.specs.Selection.{selected_by}
 
 -- an object of the class r can stand where one of c is named

@@ -1,11 +1,10 @@
 -- The classes that a program can meet, by number and by name.
-use Rattle.std.specs.Prelude.{ℕ, zero, suc, Bool, List, [], ◌∷◌, length, Option, Some, None, nat_eq, slice_index_or, codes, not, ◌||◌, ◌&&◌}
-use Rattle.std.specs.Option.{option_and_then, option_map_or, option_or}
+use Rattle.std.specs.Prelude.{ℕ, zero, suc, Bool, List, [], ◌∷◌, length, Option, Some, None, nat_eq, slice_index_or, codes, not, ◌||◌}
+use Rattle.std.specs.Option.{option_and_then}
 use Rattle.std.specs.List.{list_any, position, filter_map, flat_map}
 use Rattle.std.specs.Str.{bytes_eq}
 use Rattle.class_reader.specs.declared.class.ClassRecord.{ClassRecord}
 use Rattle.class_reader.specs.declared.class.Method.{Method}
-use Rattle.class_reader.specs.declared.class.Code.{Code}
 use Rattle.class_reader.specs.Flags.{is_abstract}
 use Rattle.world.specs.Access.{is_interface}
 

@@ -6,16 +6,18 @@ ghost use Rattle.world.specs.declared.fault.WorldFault.TheVariants.{Memory};
 ghost use Rattle.world.specs.World.{world_of};
 ghost use Rattle.world.specs.Access.{is_interface, is_final};
 ghost use Rattle.world.specs.Building.{first_class, is_twice, is_missing, missing_name, has_flags, wrong_name, twice, missing_super, wrong_super, final_super, HasSupers, IsCyclic, IsWellBuilt, IsFault};
+ghost use Rattle.world.specs.Ranks.{AreRanks};
 ghost use Rattle.world.specs.Faults.{fault_of, final_name};
 
 use crate::access::{is_final, is_interface};
 use crate::classes::Classes;
-use crate::cycle::first_cyclic;
+use crate::cycle::{Order, order_of};
 use crate::fault::WorldFault;
 use crate::table::{links_of, rows_of};
 use crate::world::World;
 use class_pool::Text;
 use class_reader::{Class, ClassRecord};
+use graph_core::Components;
 use std::alloc::{AllocError, Global};
 
 /// The kinds of faults that one class shows.
@@ -227,16 +229,17 @@ impl Classes {
     }
 }
 
-/// Whether classes are a world.
-fn check(alloc: Global, classes: &Classes) -> Result<(), WorldFault>
+/// Ranks of the classes, where they are a world.
+fn check(alloc: Global, classes: &Classes) -> Result<Components, WorldFault>
+    ensures ranks { IfOk result (λ ranks. AreRanks classes.now ranks) }
     ensures well { OnOk result (IsWellBuilt classes.now) }
     ensures fault { IfErr result (λ e. e ≢ Memory → IsFault classes.now e) }
 {
     check_supers(classes)?;
-    check_cycle(alloc, classes)?;
+    let ranks = check_cycle(alloc, classes)?;
     match classes.first_fault(FaultKind::FinalSuper)? {
         Some(fault) => Err(fault),
-        None => Ok(()),
+        None => Ok(ranks),
     }
 }
 
@@ -259,17 +262,18 @@ fn check_supers(classes: &Classes) -> Result<(), WorldFault>
     }
 }
 
-/// Whether no class leads back to itself.
-fn check_cycle(alloc: Global, classes: &Classes) -> Result<(), WorldFault>
+/// Ranks of the classes, where no class leads back to itself.
+fn check_cycle(alloc: Global, classes: &Classes) -> Result<Components, WorldFault>
     requires { HasSupers classes.now }
+    ensures ranks { IfOk result (λ ranks. AreRanks classes.now ranks) }
     ensures none { OnOk result ((c : ℕ) → ¬ IsCyclic classes.now c) }
     ensures fault { IfErr result (λ e. e ≢ Memory → IsFault classes.now e) }
 {
-    match first_cyclic(alloc, classes)? {
-        Some(class) => Err(WorldFault::SuperCycle {
+    match order_of(alloc, classes)? {
+        Order::Cyclic { class } => Err(WorldFault::SuperCycle {
             name: classes.record(class).name.share()?,
         }),
-        None => Ok(()),
+        Order::Ranked { ranks } => Ok(ranks),
     }
 }
 
@@ -289,9 +293,9 @@ impl World {
         ensures fault { IfErr result (λ e. e ≢ Memory → IsFault (world_of classes.items) e) }
     {
         let classes = Classes::of(alloc, classes)?;
-        check(alloc, &classes)?;
+        let ranks = check(alloc, &classes)?;
         let links = links_of(alloc, &classes)?;
-        let rows = rows_of(alloc, &classes, &links)?;
+        let rows = rows_of(alloc, &classes, &links, ranks.as_slice())?;
         Ok(World { classes, rows })
     }
 }

@@ -2,18 +2,20 @@
 
 ghost use Rattle.std.specs.Prelude.{◌≡◌, ◌+◌, ◌<◌, ◌≤◌, ◌^◌, ◌↔◌, length, IsSome, IfSome, IfOk, position, is_some, slice_get, false};
 ghost use Rattle.std.specs.List.{list_all};
-ghost use Rattle.std.specs.Option.{option_copied, option_map_or};
-ghost use Rattle.world.specs.World.{class_at, is_named, number_of, superclass, interfaces, line, world_of};
+ghost use Rattle.std.specs.Option.{option_copied, option_and_then, option_map, option_map_or};
+ghost use Rattle.world.specs.World.{object_class, class_at, is_named, number_of, superclass, interfaces, line, world_of};
 ghost use Rattle.world.specs.Building.{supers};
 ghost use Rattle.world.specs.Access.{has_kind};
-ghost use Rattle.world.specs.Tables.{HasFew, has_few};
-ghost use Rattle.world.specs.Resolution.{is_field, is_method, field_in, method_in};
+ghost use Rattle.world.specs.Tables.{HasFew, HasMethod, HasShortCode, has_few};
+ghost use Rattle.world.specs.Resolution.{member, is_field, is_method, field_in, method_in};
 
 use crate::access::MethodKind;
 use crate::built_in::object_class;
 use crate::member::MemberId;
+use crate::naming::numbers_of;
 use class_reader::{Class, ClassRecord, Field, Method};
 use std::alloc::{AllocError, Global};
+use std::collections::BTreeMap;
 use std::marker::Model;
 
 /// How many fields, and how many methods, have numbers.
@@ -24,27 +26,20 @@ const MAX_MEMBERS: usize = 4294967296;
 pub(crate) struct Classes {
     object: ClassRecord,
     files: Vec<Class>,
+    names: BTreeMap<Vec<u8>, u32>,
 }
 
 impl Model for Classes {
     ghost use Rattle.std.specs.Prelude.{List, ◌∷◌};
     ghost use Rattle.class_reader.specs.declared.class.ClassRecord.{ClassRecord};
-    ghost use Rattle.world.specs.Tables.{IsCounted};
+    ghost use Rattle.world.specs.Names.{noted};
+    ghost use Rattle.world.specs.Tables.{IsNumbered};
 
     ghost Value = { List ClassRecord };
 
     ghost view = { λ c. c.object ∷ c.files.items };
 
-    ghost invariant = { λ c. IsCounted c.object c.files.items };
-}
-
-/// The place of the first class with this name.
-fn place_of(files: &[Class], name: &[u8]) -> Option<usize>
-    ensures { result ≡ position (is_named name.now) files.now }
-{
-    files
-        .iter()
-        .position(|class| class.record().name.as_slice() == name)
+    ghost invariant = { λ c. IsNumbered c.object c.files.items (noted c.names) };
 }
 
 /// Whether the field has this name and descriptor.
@@ -89,6 +84,13 @@ fn is_of_kind(methods: &[Method], kind: MethodKind, place: usize) -> bool
     }
 }
 
+// The method at this place of a class.
+fn method_at(class: &ClassRecord, place: u32) -> Option<&Method>
+    ensures { option_copied result ≡ slice_get class.now.methods place }
+{
+    class.methods.as_slice().get(place as usize)
+}
+
 impl Classes {
     /// How many classes there are.
     pub(crate) fn len(&self) -> u32
@@ -112,6 +114,13 @@ impl Classes {
         }
     }
 
+    /// A law: the first class is the one that is built in. Does nothing.
+    pub(crate) fn built_in(&self)
+        ensures { class_at self.now 0 ≡ object_class }
+    {
+        let _ = &self.object;
+    }
+
     /// The file's class with this number: None for the class that is built in.
     pub(crate) fn file(&self, class: u32) -> Option<&Class>
         requires { class < length self.now }
@@ -125,19 +134,29 @@ impl Classes {
         }
     }
 
+    /// The method with this number, if there is one. Its code takes at most 65,535 bytes (JVMS 4.7.3).
+    #[tactic(auto, using(crate::proofs::Short::file_short, crate::proofs::Short::object_short))]
+    pub(crate) fn find_method(&self, m: MemberId) -> Option<&Method>
+        ensures same { option_copied result ≡ option_and_then (λ class. slice_get class.methods m.member) (slice_get self.now m.class) }
+        ensures kind { IsSome result ↔ HasMethod self.now m }
+        ensures short { IfSome result (λ method. HasShortCode method.now) }
+    {
+        if m.class >= self.len() {
+            return None;
+        }
+        if m.class == 0 {
+            return method_at(&self.object, m.member);
+        }
+        method_at(self.files[m.class as usize - 1].record(), m.member)
+    }
+
     /// The number of the class with this name.
-    #[tactic(auto, using(crate::proofs::Places::number_behind), unfolding(crate::specs::World::number_of))]
     pub(crate) fn number(&self, name: &[u8]) -> Option<u32>
         ensures number { result ≡ number_of self.now name.now }
         ensures bound { IfSome result (λ c. c < length self.now) }
     {
-        if self.object.name.as_slice() == name {
-            return Some(0);
-        }
-        match place_of(&self.files, name) {
-            Some(place) => Some(place as u32 + 1),
-            None => None,
-        }
+        let number = self.names.get(name).copied();
+        number
     }
 
     /// The number of the direct superclass.
@@ -189,6 +208,21 @@ impl Classes {
     {
         let place = place_of_field(self.record(class).fields.as_slice(), name, desc);
         match place {
+            Some(place) => Some(MemberId {
+                class,
+                member: place as u32,
+            }),
+            None => None,
+        }
+    }
+
+    /// The method that the class declares with this name and descriptor.
+    pub(crate) fn declared_method(&self, class: u32, name: &[u8], desc: &[u8]) -> Option<MemberId>
+        ensures method { result ≡ option_map (member class) (position (is_method name.now desc.now) (class_at self.now class).methods) }
+        ensures there { class < length self.now → IfSome result (HasMethod self.now) }
+    {
+        let methods = self.record(class).methods.as_slice();
+        match place_of_method(methods, name, desc) {
             Some(place) => Some(MemberId {
                 class,
                 member: place as u32,
@@ -271,6 +305,11 @@ impl Classes {
             return Err(AllocError);
         }
         let object = object_class(alloc)?;
-        Ok(Classes { object, files })
+        let names = numbers_of(alloc, &object, &files)?;
+        Ok(Classes {
+            object,
+            files,
+            names,
+        })
     }
 }

@@ -1,65 +1,95 @@
 //! Cycles of superclasses and superinterfaces.
 
-ghost use Rattle.std.specs.Prelude.{◌≡◌, ◌<◌, ◌↔◌, IfOk, IsTrue, length};
-ghost use Rattle.world.specs.Building.{IsCyclic, supers};
-ghost use Rattle.world.specs.Tables.{row_at, AreInside, AreReached, AreSupers, FindsCycle};
+ghost use Rattle.std.specs.Prelude.{◌≡◌, ◌+◌, ◌<◌, IfOk, OnOk, length};
+ghost use Rattle.world.specs.Building.{IsCyclic};
+ghost use Rattle.world.specs.Ranks.{IsGraphBelow, number_in, has_peer, FindsPeer};
+ghost use Rattle.world.specs.Orders.{IsOrder};
 
 use crate::classes::Classes;
-use crate::table::{add_all, has_class, row_in};
-use class_pool::Sequence;
+use graph_core::{Components, Graph, components};
 use std::alloc::{AllocError, Global};
 
-/// All numbers that the rows lead to from this one, each once.
-fn reached_from(alloc: Global, rows: &[Sequence<u32>], class: u32) -> Result<Vec<u32>, AllocError>
-    requires { AreInside rows.now }
-    ensures { IfOk result (λ v. AreReached rows.now class v.items) }
-{
-    let mut found = Vec::new(alloc);
-    add_all(&mut found, row_in(rows, class))?;
-    for i in 0..rows.len() {
-        if i >= found.len() {
-            return Ok(found);
-        }
-        let next = found[i];
-        add_all(&mut found, row_in(rows, next))?;
-    }
-    Ok(found)
-}
-
-/// Whether the class leads back to itself.
-fn leads_back(
+/// Adds an edge from the class to each class that it names.
+fn add_supers(
     alloc: Global,
     classes: &Classes,
-    rows: &[Sequence<u32>],
     class: u32,
-) -> Result<bool, AllocError>
-    requires { AreSupers classes.now rows.now }
-    ensures { IfOk result (λ b. IsTrue b ↔ IsCyclic classes.now class) }
+    graph: &mut Graph,
+) -> Result<(), AllocError>
+    requires class { class < length classes.now }
+    requires below { IsGraphBelow classes.now class graph.old }
+    ensures { OnOk result (IsGraphBelow classes.now (class + 1) graph.new) }
 {
-    let found = reached_from(alloc, rows, class)?;
-    Ok(has_class(&found, class))
-}
-
-/// The superclass and the superinterfaces of each class.
-fn supers_of(alloc: Global, classes: &Classes) -> Result<Vec<Sequence<u32>>, AllocError>
-    ensures { IfOk result (λ rows. AreSupers classes.now rows.items) }
-{
-    let mut rows = Vec::new(alloc);
-    for class in 0..classes.len() {
-        rows.push(Sequence::from(classes.supers(alloc, class)?))?;
+    let supers = classes.supers(alloc, class)?;
+    for other in &supers {
+        graph.add(class, *other)?;
     }
-    Ok(rows)
+    Ok(())
 }
 
-/// The first class that leads back to itself.
-pub(crate) fn first_cyclic(alloc: Global, classes: &Classes) -> Result<Option<u32>, AllocError>
-    ensures { IfOk result (λ c. FindsCycle classes.now c) }
+/// The graph of what each class names.
+fn graph_of(alloc: Global, classes: &Classes) -> Result<Graph, AllocError>
+    ensures { IfOk result (λ g. IsGraphBelow classes.now (length classes.now) g) }
 {
-    let supers = supers_of(alloc, classes)?;
+    let mut graph = Graph::new(alloc, classes.len())?;
     for class in 0..classes.len() {
-        if leads_back(alloc, classes, &supers, class)? {
-            return Ok(Some(class));
+        add_supers(alloc, classes, class, &mut graph)?;
+    }
+    Ok(graph)
+}
+
+/// The number of a class.
+pub(crate) fn number_in(numbers: &[u32], class: u32) -> u32
+    ensures { result ≡ number_in numbers.now class }
+{
+    match numbers.get(class as usize) {
+        Some(number) => *number,
+        None => 0,
+    }
+}
+
+/// Whether the class names one of its own component.
+fn has_peer(graph: &Graph, numbers: &[u32], class: u32) -> bool
+    requires { class < length graph.now }
+    ensures { result ≡ has_peer graph.now numbers.now class }
+{
+    let number = number_in(numbers, class);
+    graph
+        .successors(class)
+        .iter()
+        .any(|other| number_in(numbers, *other) == number)
+}
+
+/// The first class that names one of its own component.
+fn first_peer(graph: &Graph, numbers: &[u32]) -> Option<u32>
+    ensures { FindsPeer graph.now numbers.now result }
+{
+    for class in 0..graph.nodes() {
+        if has_peer(graph, numbers, class) {
+            return Some(class);
         }
     }
-    Ok(None)
+    None
+}
+
+/// What the names of superclasses and superinterfaces lead to.
+#[derive(Drop)]
+pub(crate) enum Order {
+    /// No class leads back to itself. Each class has a higher number than what it names.
+    Ranked { ranks: Components },
+    /// The first class that leads back to itself.
+    Cyclic { class: u32 },
+}
+
+/// The first class that leads back to itself, or a number for each, higher than those of what it names. A class leads
+/// back to itself exactly where it names one of its own component.
+pub(crate) fn order_of(alloc: Global, classes: &Classes) -> Result<Order, AllocError>
+    ensures { IfOk result (λ order. IsOrder classes.now order) }
+{
+    let graph = graph_of(alloc, classes)?;
+    let numbers = components(alloc, &graph)?;
+    match first_peer(&graph, numbers.as_slice()) {
+        Some(class) => Ok(Order::Cyclic { class }),
+        None => Ok(Order::Ranked { ranks: numbers }),
+    }
 }

@@ -90,8 +90,8 @@ impl World {
     fn class_instance(&self, a: &[u8], b: &[u8]) -> bool
         ensures { result ≡ class_instance self.now a.now b.now }
     {
-        match self.number(a) {
-            Some(c) => match self.number(b) {
+        match self.class_named(a) {
+            Some(c) => match self.class_named(b) {
                 Some(d) => self.is_below(c, d),
                 None => false,
             },

@@ -8,13 +8,18 @@ mod classes;
 mod cycle;
 mod fault;
 mod instance;
+mod laws;
 mod member;
+mod naming;
+mod rank;
 mod resolve;
 mod select;
 mod table;
+mod targets;
 mod world;
 
 pub use fault::{ResolveFault, WorldFault};
+pub use laws::{interfaces_are_whole, lines_are_whole, names_are_own, superclasses_are_there};
 pub use member::MemberId;
 pub use world::World;
 

@@ -7,7 +7,7 @@ ghost use Rattle.world.specs.declared.access.MethodKind.TheVariants as kinds;
 ghost use Rattle.world.specs.declared.fault.ResolveFault.TheVariants.{MissingMember};
 ghost use Rattle.world.specs.World.{above, line};
 ghost use Rattle.world.specs.Resolution.{first_of, field_in, method_in, field_from, has_default, is_overridden, is_most_specific, interface_method, method_from, resolved_field, resolved_method};
-ghost use Rattle.world.specs.Tables.{HasMethod, Tells};
+ghost use Rattle.world.specs.Tables.{HasField, HasMethod, Tells};
 
 use crate::access::MethodKind;
 use crate::classes::Classes;
@@ -190,10 +190,15 @@ impl World {
         name: &Text,
         desc: &Text,
     ) -> Result<MemberId, ResolveFault>
-        ensures { Tells result (resolved_field self.now class.now name.now desc.now) }
+        // What is resolved is a field of the world.
+        ensures there { IfOk result (λ m. HasField self.now m) }
+        ensures exact { Tells result (resolved_field self.now class.now name.now desc.now) }
     {
         match self.class(class) {
-            Some(class) => self.field_from(alloc, class, name.as_slice(), desc.as_slice()),
+            Some(class) => {
+                let field = self.field_from(alloc, class, name.as_slice(), desc.as_slice())?;
+                Ok(field)
+            }
             None => Err(ResolveFault::MissingClass),
         }
     }

@@ -44,12 +44,12 @@ impl World {
     fn is_met(&self, among: &[u32], name: &[u8], desc: &[u8], d: u32) -> bool
         ensures { result ≡ list_any (λ e. is_some (method_in self.now name.now desc.now kinds.Any e) && not (same_package self.now d e)) among.now }
     {
-        among.iter().any(|e| self.has_method(*e, name, desc, MethodKind::Any)
+        among.iter().any(|e| self.has_such(*e, name, desc, MethodKind::Any)
             && !self.same_package(d, *e))
     }
 
     /// Whether the class has a method of this name, descriptor and kind.
-    fn has_method(&self, class: u32, name: &[u8], desc: &[u8], kind: MethodKind) -> bool
+    fn has_such(&self, class: u32, name: &[u8], desc: &[u8], kind: MethodKind) -> bool
         ensures { result ≡ is_some (method_in self.now name.now desc.now kind class) }
     {
         self.classes.has_method(class, name, desc, kind)
@@ -60,7 +60,7 @@ impl World {
     fn meets_package(&self, among: &[u32], name: &[u8], desc: &[u8]) -> bool
         ensures { result ≡ meets_package self.now name.now desc.now among.now }
     {
-        among.iter().any(|d| self.has_method(*d, name, desc, MethodKind::Package)
+        among.iter().any(|d| self.has_such(*d, name, desc, MethodKind::Package)
             && self.is_met(among, name, desc, *d))
     }
 
@@ -133,29 +133,16 @@ impl World {
         d == e || self.is_above(e, d)
     }
 
-    /// The number of the direct superclass.
-    fn superclass(&self, class: u32) -> Option<u32>
-        ensures { result ≡ superclass self.now class }
+    /// Whether an object of the class is an instance of the other: of itself, of a superclass, or of an interface that
+    /// one of these names, also through interfaces.
+    pub fn is_below(&self, class: u32, other: u32) -> bool
+        ensures { result ≡ is_below self.now class other }
     {
-        self.classes.superclass(class)
-    }
-
-    /// How many classes there are.
-    pub(crate) fn count(&self) -> u32
-        ensures { result ≡ length self.now }
-    {
-        self.classes.len()
-    }
-
-    /// Whether an object of the class c is an instance of d.
-    pub(crate) fn is_below(&self, c: u32, d: u32) -> bool
-        ensures { result ≡ is_below self.now c d }
-    {
-        let mut next = Some(c);
+        let mut next = Some(class);
         for _ in 0..self.count() {
             match next {
                 Some(at) => {
-                    if self.is_at_or_above(at, d) {
+                    if self.is_at_or_above(at, other) {
                         return true;
                     }
                     next = self.superclass(at);
@@ -243,8 +230,12 @@ impl World {
     }
 
     /// The method that a call of m runs on an object of this class.
+    ///
+    /// # Errors
+    ///
+    /// As those of `selected`, without `MissingClass`.
     #[tactic(auto, unfolding(crate::specs::Selection::selected_by))]
-    pub(crate) fn selected_by(
+    pub fn selected_by(
         &self,
         alloc: Global,
         m: MemberId,

@@ -3,9 +3,12 @@
 ghost use Rattle.std.specs.Prelude.{◌≡◌, ◌↔◌, ◌++◌, ℕ, [], ◌∷◌, length, nat_eq, OnOk, IfOk, IsTrue};
 ghost use Rattle.std.specs.List.{flat_map, list_any};
 ghost use Rattle.world.specs.World.{interfaces};
-ghost use Rattle.world.specs.Tables.{SameFirst, Grows, with_row, row_at, AreLinks, AreRows, IsRound};
+ghost use Rattle.world.specs.Building.{IsWellBuilt};
+ghost use Rattle.world.specs.Ranks.{AreRanks};
+ghost use Rattle.world.specs.Tables.{SameFirst, Grows, with_row, row_at, AreLinks, AreRows};
 
 use crate::classes::Classes;
+use crate::rank::by_rank;
 use class_pool::Sequence;
 use std::alloc::{AllocError, Global};
 
@@ -107,21 +110,6 @@ pub(crate) fn links_of(alloc: Global, classes: &Classes) -> Result<Vec<Sequence<
     Ok(links)
 }
 
-/// The rows with one name more.
-fn round_of(
-    alloc: Global,
-    links: &[Sequence<u32>],
-    rows: &[Sequence<u32>],
-) -> Result<Vec<Sequence<u32>>, AllocError>
-    ensures { IfOk result (λ next. IsRound links.now rows.now next.items) }
-{
-    let mut next = Vec::new(alloc);
-    for link in links {
-        next.push(row_of(alloc, link.as_slice(), rows)?)?;
-    }
-    Ok(next)
-}
-
 /// No rows yet: an empty one for each class.
 fn empty_rows(alloc: Global, count: usize) -> Result<Vec<Sequence<u32>>, AllocError>
     ensures { IfOk result (λ rows. (length rows.items ≡ count) × ((c : ℕ) → row_at rows.items c ≡ [])) }
@@ -133,43 +121,25 @@ fn empty_rows(alloc: Global, count: usize) -> Result<Vec<Sequence<u32>>, AllocEr
     Ok(rows)
 }
 
-fn is_same_row(row: &Sequence<u32>, next: &Sequence<u32>) -> bool
-    ensures { IsTrue result ↔ (row.now ≡ next.now) }
-{
-    row.as_slice() == next.as_slice()
-}
-
-/// Whether the rows are the same.
-fn are_same(rows: &[Sequence<u32>], next: &[Sequence<u32>]) -> bool
-    ensures { IsTrue result → rows.now ≡ next.now }
-{
-    if rows.len() != next.len() {
-        return false;
-    }
-    for (i, row) in rows.iter().enumerate() {
-        if !is_same_row(row, &next[i]) {
-            return false;
-        }
-    }
-    true
-}
-
-/// The interfaces above each class, each once.
+/// The interfaces above each class, each once. By rising rank, so that what stands above those that a class names is
+/// there before it.
 pub(crate) fn rows_of(
     alloc: Global,
     classes: &Classes,
     links: &[Sequence<u32>],
+    ranks: &[u32],
 ) -> Result<Vec<Sequence<u32>>, AllocError>
-    requires { AreLinks classes.now links.now }
+    requires links { AreLinks classes.now links.now }
+    requires ranks { AreRanks classes.now ranks.now }
+    requires well_built { IsWellBuilt classes.now }
     ensures { IfOk result (λ rows. AreRows classes.now (length classes.now) rows.items) }
 {
     let mut rows = empty_rows(alloc, links.len())?;
-    for _ in 0..classes.len() {
-        let next = round_of(alloc, links, &rows)?;
-        if are_same(&rows, &next) {
-            return Ok(rows);
-        }
-        rows = next;
+    let _ = classes.len();
+    let order = by_rank(alloc, ranks)?;
+    for ranked in &order {
+        let row = row_of(alloc, row_in(links, ranked.class), &rows)?;
+        rows[ranked.class as usize] = row;
     }
     Ok(rows)
 }

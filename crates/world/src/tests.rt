@@ -40,94 +40,22 @@ G F H A I I : twice I
 x/S y/T : world
 ";
 
-fn digit(letter: u8) -> u8 {
-    match letter {
-        b'0'..=b'9' => letter - b'0',
-        b'a'..=b'f' => letter - b'a' + 10,
-        _ => 0,
-    }
-}
-
-/// The bytes that hexadecimal digits spell.
-fn bytes_of(alloc: Global, text: &str) -> Result<Vec<u8>, AllocError> {
-    let mut bytes = Vec::new(alloc);
-    for pair in text.as_bytes().chunks(2) {
-        if let [high, low] = pair {
-            bytes.push((digit(*high) << 4) | digit(*low))?;
-        }
-    }
-    Ok(bytes)
-}
-
-/// The hexadecimal digits of the class.
-fn text_of(name: &str) -> &'static str {
-    for line in CLASSES.lines() {
-        if let Some((first, text)) = line.split_once(' ') {
-            if first == name {
-                return text;
-            }
-        }
-    }
-    ""
-}
-
-fn class_of(alloc: Global, name: &str) -> Result<Class, Fail> {
-    let bytes = bytes_of(alloc, text_of(name))?;
-    if bytes.len() > u32::MAX as usize {
-        return Err("too long".into());
-    }
-    Ok(read(alloc, &bytes)?)
-}
-
-fn classes_of(alloc: Global, names: &str) -> Result<Vec<Class>, Fail> {
-    let mut classes = Vec::new(alloc);
-    for name in names.split(' ') {
-        classes.push(class_of(alloc, name)?)?;
-    }
-    Ok(classes)
-}
-
-fn built(alloc: Global, names: &str) -> Result<Result<World, WorldFault>, Fail> {
-    let classes = classes_of(alloc, names)?;
-    if classes.len() > 1000 {
-        return Err("too many".into());
-    }
-    Ok(World::build(alloc, classes))
-}
-
-fn name_of(text: &Text) -> &str {
-    str::from_utf8(text.as_slice()).unwrap_or("?")
-}
-
-fn shown(alloc: Global, fault: &WorldFault) -> Result<String, AllocError> {
-    match fault {
-        WorldFault::Twice { name } => format!(in alloc; "twice {}", name_of(name)),
-        WorldFault::MissingSuper { class, name } => {
-            format!(in alloc; "missing super {} {}", name_of(class), name_of(name))
-        }
-        WorldFault::WrongSuper { class, name } => {
-            format!(in alloc; "wrong super {} {}", name_of(class), name_of(name))
-        }
-        WorldFault::SuperCycle { name } => format!(in alloc; "super cycle {}", name_of(name)),
-        WorldFault::FinalSuper { class, name } => {
-            format!(in alloc; "final super {} {}", name_of(class), name_of(name))
-        }
-        WorldFault::Memory => format!(in alloc; "memory"),
-    }
-}
-
-#[test]
-fn worlds(rt: HostRuntime) -> Result<(), Fail> {
-    for line in WORLDS.lines() {
-        let (names, expected) = line.split_once(" : ").ok_or("an answer")?;
-        let told = match built(rt.alloc(), names)? {
-            Ok(_) => format!(in rt.alloc(); "world")?,
-            Err(fault) => shown(rt.alloc(), &fault)?,
-        };
-        assert_eq!(rt; told.as_str(), expected, "{line}");
-    }
-    Ok(())
-}
+/// Worlds, a class of receivers, a method by its class, name and descriptor, and the classes of the methods that a call
+/// can run, or the fault.
+const TARGETS: &str = "C B A I : A A m ()V : A C
+C B A I : B A m ()V : C
+C B A I : I I m ()V : A C
+C B A I : A A p ()V : A
+C B A I : A A s ()V : missing member
+C B A I : A C m ()V : not instance
+C B A I : Z A m ()V : missing class
+B A I : B A m ()V :
+D I : I I d ()V : I
+A D I : I I m ()V : missing member
+D E I J K : I I d ()V : ambiguous
+x/S y/T : x/S x/S q ()V : package override
+y/T x/S : y/T y/T q ()V : package override
+";
 
 /// Worlds and what a name means in them: a field or a method, the class, the name and the descriptor, and the class that
 /// declares it, or the fault.
@@ -154,77 +82,6 @@ x/S y/T : y/T x/S q ()V : package override
 C B A I : A C m ()V : not instance
 ";
 
-fn fault_word(fault: ResolveFault) -> &'static str {
-    match fault {
-        ResolveFault::MissingClass => "missing class",
-        ResolveFault::MissingMember => "missing member",
-        ResolveFault::Ambiguous => "ambiguous",
-        ResolveFault::PackageOverride => "package override",
-        ResolveFault::AbstractTarget => "abstract target",
-        ResolveFault::NotInstance => "not instance",
-        ResolveFault::Memory => "memory",
-    }
-}
-
-fn text(alloc: Global, name: &str) -> Result<Text, AllocError> {
-    Text::from_slice(alloc, name.as_bytes())
-}
-
-/// The class of the member, or the fault.
-fn class_shown(world: &World, found: Result<MemberId, ResolveFault>) -> &str {
-    match found {
-        Ok(member) => {
-            if member.class < world.count() {
-                name_of(world.name_at(member.class))
-            } else {
-                "?"
-            }
-        }
-        Err(fault) => fault_word(fault),
-    }
-}
-
-#[test]
-fn names(rt: HostRuntime) -> Result<(), Fail> {
-    for line in NAMES.lines() {
-        let (names, rest) = line.split_once(" : ").ok_or("a question")?;
-        let (question, expected) = rest.split_once(" : ").ok_or("an answer")?;
-        let mut words = question.split(' ');
-        let kind = words.next().ok_or("a kind")?;
-        let class = text(rt.alloc(), words.next().ok_or("a class")?)?;
-        let name = text(rt.alloc(), words.next().ok_or("a name")?)?;
-        let desc = text(rt.alloc(), words.next().ok_or("a descriptor")?)?;
-        let world = built(rt.alloc(), names)?.map_err(|_| "a world")?;
-        let found = if kind == "field" {
-            world.resolve_field(rt.alloc(), &class, &name, &desc)
-        } else {
-            world.resolve_method(rt.alloc(), &class, &name, &desc)
-        };
-        assert_eq!(rt; class_shown(&world, found), expected, "{line}");
-    }
-    Ok(())
-}
-
-#[test]
-fn runs(rt: HostRuntime) -> Result<(), Fail> {
-    for line in RUNS.lines() {
-        let (names, rest) = line.split_once(" : ").ok_or("a question")?;
-        let (question, expected) = rest.split_once(" : ").ok_or("an answer")?;
-        let mut words = question.split(' ');
-        let receiver = text(rt.alloc(), words.next().ok_or("a receiver")?)?;
-        let class = text(rt.alloc(), words.next().ok_or("a class")?)?;
-        let name = text(rt.alloc(), words.next().ok_or("a name")?)?;
-        let desc = text(rt.alloc(), words.next().ok_or("a descriptor")?)?;
-        let world = built(rt.alloc(), names)?.map_err(|_| "a world")?;
-        let method = world
-            .resolve_method(rt.alloc(), &class, &name, &desc)
-            .map_err(fault_word)?;
-        let found = world.selected(rt.alloc(), &receiver, method);
-        assert_eq!(rt; class_shown(&world, found), expected, "{line}");
-    }
-    Ok(())
-}
-
 /// Two types, and whether the first is an instance of the second, in the world of C, B, A and I.
 const INSTANCES: &str = "C A yes
 A C no
@@ -242,15 +99,266 @@ C Z no
 [I A no
 ";
 
+fn digit(letter: u8) -> u8 {
+    match letter {
+        b'0'..=b'9' => letter - b'0',
+        b'a'..=b'f' => letter - b'a' + 10,
+        _ => 0,
+    }
+}
+
+/// The bytes that hexadecimal digits spell.
+fn bytes_of(alloc: Global, text: &str) -> Result<Vec<u8>, AllocError> {
+    let mut bytes = Vec::new(alloc);
+    for pair in text.as_bytes().chunks(2) {
+        if let [high, low] = pair {
+            bytes.push((digit(*high) << 4) | digit(*low))?;
+        }
+    }
+    Ok(bytes)
+}
+
+/// The part of a line at this place.
+fn part(line: &str, place: usize) -> &str {
+    line.split(" : ").nth(place).unwrap_or("")
+}
+
+/// The word of a text at this place.
+fn word(text: &str, place: usize) -> &str {
+    text.split(' ').nth(place).unwrap_or("")
+}
+
+fn word_text(alloc: Global, text: &str, place: usize) -> Result<Text, AllocError> {
+    Text::from_slice(alloc, word(text, place).as_bytes())
+}
+
+/// The hexadecimal digits of the class.
+fn digits_of(name: &str) -> &'static str {
+    let line = CLASSES.lines().find(|line| word(line, 0) == name);
+    match line {
+        Some(line) => word(line, 1),
+        None => "",
+    }
+}
+
+fn class_of(alloc: Global, name: &str) -> Result<Class, Fail> {
+    let bytes = bytes_of(alloc, digits_of(name))?;
+    if bytes.len() > u32::MAX as usize {
+        return Err("too long".into());
+    }
+    Ok(read(alloc, &bytes)?)
+}
+
+fn classes_of(alloc: Global, names: &str) -> Result<Vec<Class>, Fail> {
+    let mut classes = Vec::new(alloc);
+    for name in names.split(' ') {
+        classes.push(class_of(alloc, name)?)?;
+    }
+    Ok(classes)
+}
+
+fn built(alloc: Global, names: &str) -> Result<Result<World, WorldFault>, Fail> {
+    let classes = classes_of(alloc, names)?;
+    if classes.len() > 1000 {
+        return Err("too many".into());
+    }
+    Ok(World::build(alloc, classes))
+}
+
+fn world_of(alloc: Global, names: &str) -> Result<World, Fail> {
+    match built(alloc, names)? {
+        Ok(world) => Ok(world),
+        Err(_) => Err("no world".into()),
+    }
+}
+
+fn name_of(text: &Text) -> &str {
+    str::from_utf8(text.as_slice()).unwrap_or("?")
+}
+
+fn shown(alloc: Global, fault: &WorldFault) -> Result<String, AllocError> {
+    match fault {
+        WorldFault::Twice { name } => format!(in alloc; "twice {}", name_of(name)),
+        WorldFault::MissingSuper { class, name } => {
+            format!(in alloc; "missing super {} {}", name_of(class), name_of(name))
+        }
+        WorldFault::WrongSuper { class, name } => {
+            format!(in alloc; "wrong super {} {}", name_of(class), name_of(name))
+        }
+        WorldFault::SuperCycle { name } => format!(in alloc; "super cycle {}", name_of(name)),
+        WorldFault::FinalSuper { class, name } => {
+            format!(in alloc; "final super {} {}", name_of(class), name_of(name))
+        }
+        WorldFault::Memory => format!(in alloc; "memory"),
+    }
+}
+
+fn fault_word(fault: ResolveFault) -> &'static str {
+    match fault {
+        ResolveFault::MissingClass => "missing class",
+        ResolveFault::MissingMember => "missing member",
+        ResolveFault::Ambiguous => "ambiguous",
+        ResolveFault::PackageOverride => "package override",
+        ResolveFault::AbstractTarget => "abstract target",
+        ResolveFault::NotInstance => "not instance",
+        ResolveFault::Memory => "memory",
+    }
+}
+
+/// The class of the member.
+fn class_shown(world: &World, member: MemberId) -> &str {
+    if member.class < world.count() {
+        name_of(world.name_at(member.class))
+    } else {
+        "?"
+    }
+}
+
+fn found_shown(
+    alloc: Global,
+    world: &World,
+    found: Result<MemberId, ResolveFault>,
+) -> Result<String, AllocError> {
+    match found {
+        Ok(member) => String::from_str(alloc, class_shown(world, member)),
+        Err(fault) => String::from_str(alloc, fault_word(fault)),
+    }
+}
+
+fn all_shown(alloc: Global, world: &World, members: &[MemberId]) -> Result<String, AllocError> {
+    let mut shown = String::new(alloc);
+    for member in members {
+        if !shown.is_empty() {
+            shown.push(' ')?;
+        }
+        shown.push_str(class_shown(world, *member))?;
+    }
+    Ok(shown)
+}
+
+/// What the words behind the first one mean: a class, a name and a descriptor.
+fn resolved(
+    alloc: Global,
+    world: &World,
+    question: &str,
+) -> Result<Result<MemberId, ResolveFault>, AllocError> {
+    let class = word_text(alloc, question, 1)?;
+    let name = word_text(alloc, question, 2)?;
+    let desc = word_text(alloc, question, 3)?;
+    if word(question, 0) == "field" {
+        Ok(world.resolve_field(alloc, &class, &name, &desc))
+    } else {
+        Ok(world.resolve_method(alloc, &class, &name, &desc))
+    }
+}
+
+/// The method that they mean.
+fn method_of(alloc: Global, world: &World, question: &str) -> Result<MemberId, Fail> {
+    match resolved(alloc, world, question)? {
+        Ok(method) => Ok(method),
+        Err(_) => Err("no method".into()),
+    }
+}
+
+/// What is selected for the class that the first word names.
+fn selected_shown(alloc: Global, line: &str) -> Result<String, Fail> {
+    let world = world_of(alloc, part(line, 0))?;
+    let method = method_of(alloc, &world, part(line, 1))?;
+    if !world.has_method(method) {
+        return Err("no method".into());
+    }
+    let receiver = word_text(alloc, part(line, 1), 0)?;
+    let found = world.selected(alloc, &receiver, method);
+    Ok(found_shown(alloc, &world, found)?)
+}
+
+/// What can run for the class that the first word names.
+fn targets_shown(alloc: Global, line: &str) -> Result<String, Fail> {
+    let world = world_of(alloc, part(line, 0))?;
+    let method = method_of(alloc, &world, part(line, 1))?;
+    if !world.has_method(method) {
+        return Err("no method".into());
+    }
+    let class = word_text(alloc, part(line, 1), 0)?;
+    match world.targets(alloc, &class, method) {
+        Ok(targets) => Ok(all_shown(alloc, &world, &targets)?),
+        Err(fault) => Ok(String::from_str(alloc, fault_word(fault))?),
+    }
+}
+
+fn resolved_shown(alloc: Global, line: &str) -> Result<String, Fail> {
+    let world = world_of(alloc, part(line, 0))?;
+    let found = resolved(alloc, &world, part(line, 1))?;
+    Ok(found_shown(alloc, &world, found)?)
+}
+
+fn world_shown(alloc: Global, line: &str) -> Result<String, Fail> {
+    match built(alloc, part(line, 0))? {
+        Ok(_) => Ok(String::from_str(alloc, "world")?),
+        Err(fault) => Ok(shown(alloc, &fault)?),
+    }
+}
+
+#[test]
+fn worlds(rt: HostRuntime) -> Result<(), Fail> {
+    for line in WORLDS.lines() {
+        let told = world_shown(rt.alloc(), line)?;
+        assert_eq!(rt; told.as_str(), part(line, 1), "{line}");
+    }
+    Ok(())
+}
+
+#[test]
+fn names(rt: HostRuntime) -> Result<(), Fail> {
+    for line in NAMES.lines() {
+        let told = resolved_shown(rt.alloc(), line)?;
+        assert_eq!(rt; told.as_str(), part(line, 2), "{line}");
+    }
+    Ok(())
+}
+
+#[test]
+fn runs(rt: HostRuntime) -> Result<(), Fail> {
+    for line in RUNS.lines() {
+        let told = selected_shown(rt.alloc(), line)?;
+        assert_eq!(rt; told.as_str(), part(line, 2), "{line}");
+    }
+    Ok(())
+}
+
+#[test]
+fn calls(rt: HostRuntime) -> Result<(), Fail> {
+    for line in TARGETS.lines() {
+        let told = targets_shown(rt.alloc(), line)?;
+        assert_eq!(rt; told.as_str(), part(line, 2), "{line}");
+    }
+    Ok(())
+}
+
+fn is_instance(alloc: Global, world: &World, line: &str) -> Result<bool, AllocError> {
+    let class = word_text(alloc, line, 0)?;
+    let of = word_text(alloc, line, 1)?;
+    Ok(world.instance(&class, &of))
+}
+
 #[test]
 fn instances(rt: HostRuntime) -> Result<(), Fail> {
-    let world = built(rt.alloc(), "C B A I")?.map_err(|_| "a world")?;
+    let world = world_of(rt.alloc(), "C B A I")?;
     for line in INSTANCES.lines() {
-        let mut words = line.split(' ');
-        let class = text(rt.alloc(), words.next().ok_or("a class")?)?;
-        let of = text(rt.alloc(), words.next().ok_or("a class")?)?;
-        let expected = words.next().ok_or("an answer")?;
-        assert_eq!(rt; world.instance(&class, &of), expected == "yes", "{line}");
+        let told = is_instance(rt.alloc(), &world, line)?;
+        assert_eq!(rt; told, word(line, 2) == "yes", "{line}");
     }
+    Ok(())
+}
+
+/// The world of C, B, A and I has Object as number 0.
+#[test]
+fn numbers(rt: HostRuntime) -> Result<(), Fail> {
+    let world = world_of(rt.alloc(), "C B A I")?;
+    assert_eq!(rt; world.count(), 5);
+    assert_eq!(rt; world.class_named(b"A"), Some(3));
+    assert_eq!(rt; world.superclass(1), Some(2));
+    assert!(rt; world.is_below(1, 4));
+    assert!(rt; !world.is_instantiable(2));
     Ok(())
 }

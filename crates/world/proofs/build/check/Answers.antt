@@ -4,4 +4,4 @@ use Rattle.world.proofs.build.check.Goals as goal
 
 pub returns-in-Some-clause-fault : goal.returns-in-Some-clause-fault
 returns-in-Some-clause-fault c =
-    λ ne. inherits c.in_ok-check_supers.ensures.has c.in_ok-check_cycle.ensures.none (sym c.in_ok-fault.ensures ∙ c.in-Some.is)
+    λ ne. inherits c.in_ok-check_supers.ensures.has c.in_ok-ranks.ensures.none (sym c.in_ok-fault.ensures ∙ c.in-Some.is)

@@ -1,5 +1,5 @@
 use Rattle.std.proofs.Common.{◌≡◌, drop}
-use Rattle.world.specs.Resolution.{first_of, field_in, method_in}
+use Rattle.world.specs.Resolution.{first_of, field_in}
 use Rattle.world.proofs.resolve.first_field.Given as goal
 
 abbrev pub invariant-loop-class : goal.invariant-loop-class

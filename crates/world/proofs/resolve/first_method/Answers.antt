@@ -1,5 +1,5 @@
-use Rattle.std.proofs.Common.{arith, sym, ◌∙◌}
-use Rattle.world.specs.Resolution.{first_of, field_in, method_in}
+use Rattle.std.proofs.Common.{arith, sym}
+use Rattle.world.specs.Resolution.{first_of, method_in}
 use Rattle.world.proofs.Finding.{first_here, first_later, first_end}
 use Rattle.world.proofs.resolve.first_method.Goals as goal
 

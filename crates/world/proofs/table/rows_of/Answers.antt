@@ -1,14 +1,20 @@
-use Rattle.std.proofs.Common.{arith, add-one, length, refl, sym, ◌∙◌}
-use Rattle.world.proofs.Rows.{no_rows, next_rows, are_still}
+use Rattle.std.proofs.Common.{arith, refl, ◌∙◌, get_or}
+use Rattle.world.specs.declared.rank.Ranked.{Ranked}
+use Rattle.world.specs.Ranks.{IsByRank}
+use Rattle.world.proofs.Ordering.{rows_start, rows_next, rows_end}
 use Rattle.world.proofs.table.rows_of.Goals as goal
 
-pub loop-init : goal.loop-init
-loop-init c = no_rows c.args.classes.now c.in_ok-rows.rows.items (c.in_ok-rows.ensures.0 ∙ c.requires.0) c.in_ok-rows.ensures.1
+pub loop-ranked-init : goal.loop-ranked-init
+loop-ranked-init c = rows_start c.args.classes.now c.deref-ranked-items.result.now c.in_ok-rows.rows.items (c.in_ok-rows.ensures.0 ∙ c.requires.links.0)
 
-pub returns-then-are_same : goal.returns-then-are_same
-returns-then-are_same c =
-    are_still c.args.classes.now c.loop.counter (length c.args.classes.now) c.args.links.now c.loop.rows.items c.in_ok-next.next.items (omega arith) c.requires c.loop.invariant (rw c.deref.ensures.value at c.in_ok-next.ensures) (sym c.deref-in-loop.ensures.value ∙ c.if-are_same.ensures refl ∙ c.deref-in-loop-2.ensures.value)
+pub loop-ranked-preserved : goal.loop-ranked-preserved
+loop-ranked-preserved c =
+    let first : Ranked = record { rank = 0; class = 0 } in
+    let order : IsByRank c.args.ranks.now c.deref-ranked-items.result.now = rw c.deref-ranked-items.ensures.value c.in_ok-order.ensures in
+    rows_next c.args.classes.now c.args.links.now c.loop-ranked.rows.items c.args.ranks.now c.deref-ranked-items.result.now c.loop-ranked.ranked-index (get_or c.deref-ranked-items.result.now c.loop-ranked.ranked-index (record { rank = 0; class = 0 })).class (record { rank = 0; class = 0 }) c.in_ok-row.row c.requires.well_built c.requires.links c.requires.ranks order c.loop-ranked-test.true refl c.loop-ranked.invariant
+    (rw (c.row_in.ensures, c.deref.ensures.value) at c.in_ok-row.ensures)
 
-pub loop-preserved : goal.loop-preserved
-loop-preserved c =
-    rw add-one (next_rows c.args.classes.now c.loop.counter c.args.links.now c.loop.rows.items c.in_ok-next.next.items c.requires c.loop.invariant (rw c.deref.ensures.value at c.in_ok-next.ensures))
+pub returns : goal.returns
+returns c =
+    let order : IsByRank c.args.ranks.now c.deref-ranked-items.result.now = rw c.deref-ranked-items.ensures.value c.in_ok-order.ensures in
+    rows_end c.args.classes.now c.args.ranks.now c.deref-ranked-items.result.now c.loop-ranked.ranked-index c.loop-ranked.rows.items (omega arith) c.requires.ranks order c.loop-ranked.invariant

@@ -1,4 +1,3 @@
-use Rattle.std.proofs.Common.{Some, None}
 use Rattle.world.proofs.Selecting.{inherited_first, inherited_default}
 use Rattle.world.proofs.world.World.inherited.Goals as goal
 

@@ -1,0 +1,303 @@
+-- Targets, receiver by receiver.
+use Rattle.std.proofs.Common.{◌≡◌, ◌⊎◌, inl, inr, ℕ, zero, suc, ◌+◌, ◌<◌, ◌≤◌, Bool, true, false, List, [], ◌∷◌, length, get_or, Option, Some, None, arith, refl, sym, ap, subst, ◌∙◌, All, AllPairs, true≢false}
+use Rattle.std.specs.Prelude.{Result, Ok, Err, IsTrue, Contains, nat_lt, if◌then◌else◌}
+use Rattle.std.specs.Ordering.{nat_cmp, match_ordering}
+use Rattle.std.specs.Cmp.Lexicographic.{slice_cmp}
+use Rattle.std.specs.declared.cmp.Ordering.{Ordering}
+use Rattle.std.specs.declared.cmp.Ordering.TheVariants.{Less, Equal, Greater}
+use Rattle.std.specs.Ordering.{ordering_reverse}
+use Rattle.std.specs.Borrow.{Bor}
+use Rattle.std.specs.Map.{values_of}
+use Rattle.std.specs.BTreeMap.{insert_entry}
+use Rattle.std.proofs.lemmas.Bool.{ltb-true, ltb-false, cases_lt}
+use Rattle.std.proofs.lemmas.Cmp.{nat_list_cmp_total}
+use Rattle.std.proofs.lemmas.List.Kept.{AllPairs-cons}
+use Rattle.std.proofs.lemmas.List.Elements.{Contains-get_or}
+use Rattle.std.proofs.lemmas.Map.Lookups.{exact_bytes}
+use Rattle.std.specs.List.{position}
+use Rattle.std.specs.Option.{option_or, option_map_or}
+use Rattle.std.proofs.lemmas.Slice.Eq.{bytes_eq-Decides}
+use Rattle.class_reader.specs.declared.class.ClassRecord.{ClassRecord}
+use Rattle.world.specs.declared.fault.WorldFault.{WorldFault}
+use Rattle.world.specs.declared.fault.WorldFault.TheVariants.{Twice}
+use Rattle.world.specs.Building.{first_number, first_class, twice, is_twice}
+use Rattle.world.proofs.Places.{position_hit, position_behind}
+use Rattle.world.specs.declared.member.MemberId.{MemberId}
+use Rattle.world.specs.declared.fault.ResolveFault.{ResolveFault}
+use Rattle.world.specs.World.{World, class_at, object_class, is_named, number_of}
+use Rattle.world.specs.Selection.{selected_by}
+use Rattle.world.specs.Tables.{HasMethod}
+use Rattle.world.specs.Targets.{is_receiver, rank, IsBefore, AreTargets, IsFirstFault}
+use Rattle.world.specs.Collecting.{GivesBelow, name_order, with_target, AreNamed, first_kind, IsFirstBelow, Collects}
+use Rattle.world.proofs.There.{selected_there, selected_same}
+
+-- ---- elements
+
+cases_at : (x : MemberId) (xs : List MemberId) (u : MemberId) (k : ℕ) → k < length (x ∷ xs) → get_or (x ∷ xs) k u ≡ u → (x ≡ u) ⊎ Contains xs u
+cases_at x xs u zero lt e = inl e
+cases_at x xs u (suc k) lt e = inr (k, omega arith, e)
+
+contains_cases : (x : MemberId) (xs : List MemberId) (u : MemberId) → Contains (x ∷ xs) u → (x ≡ u) ⊎ Contains xs u
+contains_cases x xs u h = cases_at x xs u h.0 h.1 h.2
+
+contains_head : (x : MemberId) (xs : List MemberId) → Contains (x ∷ xs) x
+contains_head x xs = (0, omega arith, refl)
+
+contains_tail : (x : MemberId) (xs : List MemberId) (u : MemberId) → Contains xs u → Contains (x ∷ xs) u
+contains_tail x xs u h = (suc h.0, omega (arith, h.1), h.2)
+
+all_by : (P : MemberId → Type 0) (xs : List MemberId) (u : MemberId) → ((k : ℕ) (d : MemberId) → k < length xs → P (get_or xs k d)) → Contains xs u → P u
+all_by P xs u h c = subst P c.2 (h c.0 u c.1)
+
+-- ---- with one target more
+
+from_at : (w : World) (t s : MemberId) (ss : List MemberId) (u : MemberId) (o : Ordering) → (Contains (with_target w t ss) u → (u ≡ t) ⊎ Contains ss u) → Contains (match_ordering o (t ∷ s ∷ ss) (t ∷ ss) (s ∷ with_target w t ss)) u → (u ≡ t) ⊎ Contains (s ∷ ss) u
+from_at w t s ss u Less ih c = elim (contains_cases t (s ∷ ss) u c) [ inl e ↦ inl (sym e) | inr d ↦ inr d ]
+from_at w t s ss u Equal ih c = elim (contains_cases t ss u c) [ inl e ↦ inl (sym e) | inr d ↦ inr (contains_tail s ss u d) ]
+from_at w t s ss u Greater ih c = elim (contains_cases s (with_target w t ss) u c) [
+  | inl e ↦ inr (subst (λ x. Contains (s ∷ ss) x) e (contains_head s ss))
+  | inr d ↦ elim (ih d) [ inl e ↦ inl e | inr f ↦ inr (contains_tail s ss u f) ]
+]
+
+from_with : (w : World) (t : MemberId) (xs : List MemberId) (u : MemberId) → Contains (with_target w t xs) u → (u ≡ t) ⊎ Contains xs u
+unfolding with_target
+from_with w t [] u c = elim (contains_cases t [] u c) [ inl e ↦ inl (sym e) | inr d ↦ inr d ]
+from_with w t (s ∷ ss) u c = from_at w t s ss u (name_order w t s) (from_with w t ss u) c
+
+-- one of the same class is the same
+abbrev IsAlone : World → MemberId → List MemberId → Type 0
+IsAlone w t xs = (s : MemberId) → Contains xs s → name_order w t s ≡ Equal → s ≡ t
+
+into_at : (w : World) (t s : MemberId) (ss : List MemberId) (u : MemberId) (o : Ordering) → (o ≡ Equal → s ≡ t) → (Contains ss u → Contains (with_target w t ss) u) → Contains (s ∷ ss) u → Contains (match_ordering o (t ∷ s ∷ ss) (t ∷ ss) (s ∷ with_target w t ss)) u
+into_at w t s ss u Less h ih c = contains_tail t (s ∷ ss) u c
+into_at w t s ss u Equal h ih c = elim (contains_cases s ss u c) [
+  | inl e ↦ subst (λ x. Contains (t ∷ ss) x) (sym (h refl) ∙ e) (contains_head t ss)
+  | inr d ↦ contains_tail t ss u d
+]
+into_at w t s ss u Greater h ih c = elim (contains_cases s ss u c) [
+  | inl e ↦ subst (λ x. Contains (s ∷ with_target w t ss) x) e (contains_head s (with_target w t ss))
+  | inr d ↦ contains_tail s (with_target w t ss) u (ih d)
+]
+
+into_with : (w : World) (t : MemberId) (xs : List MemberId) (u : MemberId) → IsAlone w t xs → Contains xs u → Contains (with_target w t xs) u
+unfolding with_target
+into_with w t [] u h c = contains_tail t [] u c
+into_with w t (s ∷ ss) u h c = into_at w t s ss u (name_order w t s) (h s (contains_head s ss)) (into_with w t ss u (λ x k e. h x (contains_tail s ss x k) e)) c
+
+it_at : (w : World) (t s : MemberId) (ss : List MemberId) (o : Ordering) → Contains (with_target w t ss) t → Contains (match_ordering o (t ∷ s ∷ ss) (t ∷ ss) (s ∷ with_target w t ss)) t
+it_at w t s ss Less ih = contains_head t (s ∷ ss)
+it_at w t s ss Equal ih = contains_head t ss
+it_at w t s ss Greater ih = contains_tail s (with_target w t ss) t ih
+
+it_with : (w : World) (t : MemberId) (xs : List MemberId) → Contains (with_target w t xs) t
+unfolding with_target
+it_with w t [] = contains_head t []
+it_with w t (s ∷ ss) = it_at w t s ss (name_order w t s) (it_with w t ss)
+
+before_all : (w : World) (s t : MemberId) (ss : List MemberId) → IsBefore w s t → ((k : ℕ) (d : MemberId) → k < length ss → IsBefore w s (get_or ss k d)) → (u : MemberId) → Contains (with_target w t ss) u → IsBefore w s u
+before_all w s t ss b h u c = elim (from_with w t ss u c) [
+  | inl e ↦ subst (λ x. IsBefore w s x) (sym e) b
+  | inr d ↦ all_by (λ x. IsBefore w s x) ss u h d
+]
+
+above_it : (w : World) (t s : MemberId) (ss : List MemberId) → IsBefore w t s → ((k : ℕ) (d : MemberId) → k < length ss → IsBefore w s (get_or ss k d)) → (k : ℕ) (d : MemberId) → k < length (s ∷ ss) → IsBefore w t (get_or (s ∷ ss) k d)
+above_it w t s ss b h zero d lt = b
+above_it w t s ss b h (suc k) d lt = nat_list_cmp_total.trans (class_at w t.class).name (class_at w s.class).name (class_at w (get_or ss k d).class).name b (h k d (omega arith))
+
+order_at : (w : World) (t s : MemberId) (ss : List MemberId) (o : Ordering) → name_order w t s ≡ o → (o ≡ Equal → s ≡ t) → AllPairs (IsBefore w) (s ∷ ss) → AllPairs (IsBefore w) (with_target w t ss) → AllPairs (IsBefore w) (match_ordering o (t ∷ s ∷ ss) (t ∷ ss) (s ∷ with_target w t ss))
+order_at w t s ss Less e k h ih = AllPairs-cons (IsBefore w) t (s ∷ ss) (above_it w t s ss e (λ j d l. h 0 (suc j) d (omega arith) (omega arith))) h
+order_at w t s ss Equal e k h ih = subst (λ x. AllPairs (IsBefore w) (x ∷ ss)) (k refl) h
+order_at w t s ss Greater e k h ih =
+    let b : IsBefore w s t = nat_list_cmp_total.antisymm (class_at w s.class).name (class_at w t.class).name ∙ ap ordering_reverse e in
+    AllPairs-cons (IsBefore w) s (with_target w t ss) (λ k d lt. before_all w s t ss b (λ j b l. h 0 (suc j) b (omega arith) (omega arith)) (get_or (with_target w t ss) k d) (Contains-get_or (with_target w t ss) k d lt)) ih
+
+order_with : (w : World) (t : MemberId) (xs : List MemberId) → IsAlone w t xs → AllPairs (IsBefore w) xs → AllPairs (IsBefore w) (with_target w t xs)
+unfolding with_target
+order_with w t [] k h = λ i j d lt within. absurd (omega arith)
+order_with w t (s ∷ ss) k h =
+    order_at w t s ss (name_order w t s) refl (k s (contains_head s ss)) h (order_with w t ss (λ x c e. k x (contains_tail s ss x c) e) (λ i j d lt within. h (suc i) (suc j) d (omega arith) (omega arith)))
+
+-- ---- one receiver more
+
+split : (w : World) (c : ℕ) (m : MemberId) (r : ℕ) (a : Result MemberId ResolveFault) → GivesBelow w c m (suc r) a → GivesBelow w c m r a ⊎ (IsTrue (is_receiver w c r) × (selected_by w m r ≡ a))
+split w c m r a g = elim (cases_lt g.0 r) [
+  | inl lt ↦ inl (g.0, lt, g.2, g.3)
+  | inr le ↦ let same : g.0 ≡ r = omega (arith, g.1) in inr (subst (λ k. IsTrue (is_receiver w c k)) same g.2, ap (λ k. selected_by w m k) (sym same) ∙ g.3)
+]
+
+more : (w : World) (c : ℕ) (m : MemberId) (r : ℕ) (a : Result MemberId ResolveFault) → GivesBelow w c m r a → GivesBelow w c m (suc r) a
+more w c m r a g = (g.0, omega (arith, g.1), g.2, g.3)
+
+here : (w : World) (c : ℕ) (m : MemberId) (r : ℕ) (a : Result MemberId ResolveFault) → IsTrue (is_receiver w c r) → selected_by w m r ≡ a → GivesBelow w c m (suc r) a
+here w c m r a i e = (r, omega arith, i, e)
+
+first_keeps : (w : World) (c : ℕ) (m : MemberId) (r : ℕ) (f : Option ResolveFault) → ((x : ResolveFault) → IsTrue (is_receiver w c r) → selected_by w m r ≡ Err x → ⊥) → IsFirstBelow w c m r f → IsFirstBelow w c m (suc r) f
+first_keeps w c m r None never h = λ x g. elim (split w c m r (Err x) g) [ inl b ↦ h x b | inr p ↦ never x p.0 p.1 ]
+first_keeps w c m r (Some f) never h = (more w c m r (Err f) h.0, λ x g. elim (split w c m r (Err x) g) [ inl b ↦ h.1 x b | inr p ↦ absurd (never x p.0 p.1) ])
+
+pub collects_pass : (w : World) (c : ℕ) (m : MemberId) (r : ℕ) (xs : List MemberId) (f : Option ResolveFault) → is_receiver w c r ≡ false → Collects w c m r xs f → Collects w c m (suc r) xs f
+collects_pass w c m r xs f never h = record {
+  all = λ t. (
+    λ k. more w c m r (Ok t) ((h.all t).0 k),
+    λ g. elim (split w c m r (Ok t) g) [ inl b ↦ (h.all t).1 b | inr p ↦ absurd (true≢false (sym p.0 ∙ never)) ],
+  );
+  in_order = h.in_order;
+  first = first_keeps w c m r f (λ x i e. true≢false (sym i ∙ never)) h.first;
+}
+
+abbrev pub HasNames : World → Type 0
+HasNames w = (a b : ℕ) → a < length w → b < length w → (class_at w a).name ≡ (class_at w b).name → a ≡ b
+
+alike : (w : World) (c : ℕ) (m : MemberId) (r : ℕ) (s t : MemberId) → HasNames w → HasMethod w m → r < length w → selected_by w m r ≡ Ok t → GivesBelow w c m r (Ok s) → name_order w t s ≡ Equal → s ≡ t
+alike w c m r s t names there lt e g o =
+    let lower : g.0 < length w = omega (arith, g.1) in
+    selected_same w m g.0 r s t lower lt g.3 e (names s.class t.class (selected_there w m g.0 s lower there g.3).0 (selected_there w m r t lt there e).0 (sym (exact_bytes (class_at w t.class).name (class_at w s.class).name o)))
+
+pub collects_target : (w : World) (c : ℕ) (m : MemberId) (r : ℕ) (xs : List MemberId) (f : Option ResolveFault) (t : MemberId) → HasNames w → HasMethod w m → r < length w → is_receiver w c r ≡ true → selected_by w m r ≡ Ok t → Collects w c m r xs f → Collects w c m (suc r) (with_target w t xs) f
+collects_target w c m r xs f t names there lt i e h =
+    let alone : IsAlone w t xs = λ s k o. alike w c m r s t names there lt e ((h.all s).0 k) o in
+    record {
+      all = λ u. (
+        λ k. elim (from_with w t xs u k) [ inl s ↦ here w c m r (Ok u) i (e ∙ ap Ok (sym s)) | inr d ↦ more w c m r (Ok u) ((h.all u).0 d) ],
+        λ g. elim (split w c m r (Ok u) g) [
+          | inl b ↦ into_with w t xs u alone ((h.all u).1 b)
+          | inr p ↦ let same : t ≡ u = cc in subst (λ x. Contains (with_target w t xs) x) same (it_with w t xs)
+        ],
+      );
+      in_order = order_with w t xs alone h.in_order;
+      first = first_keeps w c m r f (λ x j k. cc) h.first;
+    }
+
+rank_same : (x y : ResolveFault) → x ≡ y → rank x ≤ rank y
+rank_same x y e = subst (λ z. rank x ≤ rank z) e (omega arith)
+
+first_two : (w : World) (c : ℕ) (m : MemberId) (r : ℕ) (old f : ResolveFault) (b : Bool) → nat_lt (rank f) (rank old) ≡ b → IsTrue (is_receiver w c r) → selected_by w m r ≡ Err f → IsFirstBelow w c m r (Some old) → IsFirstBelow w c m (suc r) (Some (if b then f else old))
+first_two w c m r old f true k i e h =
+    let lt : rank f < rank old = ltb-true (rank f) (rank old) k in
+    (here w c m r (Err f) i e, λ x g. elim (split w c m r (Err x) g) [ inl b ↦ omega (arith, lt, h.1 x b) | inr p ↦ rank_same f x (cc) ])
+first_two w c m r old f false k i e h =
+    let le : rank old ≤ rank f = ltb-false (rank f) (rank old) k in
+    (more w c m r (Err old) h.0, λ x g. elim (split w c m r (Err x) g) [ inl b ↦ h.1 x b | inr p ↦ omega (arith, le, rank_same f x (cc)) ])
+
+first_more : (w : World) (c : ℕ) (m : MemberId) (r : ℕ) (old : Option ResolveFault) (f : ResolveFault) → IsTrue (is_receiver w c r) → selected_by w m r ≡ Err f → IsFirstBelow w c m r old → IsFirstBelow w c m (suc r) (Some (first_kind old f))
+first_more w c m r None f i e h = (here w c m r (Err f) i e, λ x g. elim (split w c m r (Err x) g) [ inl b ↦ absurd (h x b) | inr p ↦ rank_same f x (cc) ])
+first_more w c m r (Some old) f i e h = first_two w c m r old f (nat_lt (rank f) (rank old)) refl i e h
+
+pub collects_fault : (w : World) (c : ℕ) (m : MemberId) (r : ℕ) (xs : List MemberId) (old : Option ResolveFault) (f : ResolveFault) → is_receiver w c r ≡ true → selected_by w m r ≡ Err f → Collects w c m r xs old → Collects w c m (suc r) xs (Some (first_kind old f))
+collects_fault w c m r xs old f i e h = record {
+  all = λ u. (
+    λ k. more w c m r (Ok u) ((h.all u).0 k),
+    λ g. elim (split w c m r (Ok u) g) [ inl b ↦ (h.all u).1 b | inr p ↦ absurd cc ],
+  );
+  in_order = h.in_order;
+  first = first_more w c m r old f i e h.first;
+}
+
+-- ---- at the names of their classes
+
+name_same : (w : World) (k : Bor (List ℕ)) (t s : MemberId) (name : List ℕ) → k.now ≡ (class_at w t.class).name → name ≡ (class_at w s.class).name → slice_cmp nat_cmp k.now name ≡ name_order w t s
+name_same w k t s name e f = ap (λ x. slice_cmp nat_cmp x name) e ∙ ap (λ x. slice_cmp nat_cmp (class_at w t.class).name x) f
+
+values_at : (w : World) (k : Bor (List ℕ)) (t : MemberId) (e : Bor (List ℕ) × MemberId) (es : List (Bor (List ℕ) × MemberId)) (o : Ordering) → values_of (insert_entry (λ x y. slice_cmp nat_cmp x.now y.now) es k t) ≡ with_target w t (values_of es) → values_of (match_ordering o ((k, t) ∷ e ∷ es) ((e.0, t) ∷ es) (e ∷ insert_entry (λ x y. slice_cmp nat_cmp x.now y.now) es k t)) ≡ match_ordering o (t ∷ e.1 ∷ values_of es) (t ∷ values_of es) (e.1 ∷ with_target w t (values_of es))
+values_at w k t e es Less ih = refl
+values_at w k t e es Equal ih = refl
+values_at w k t e es Greater ih = ap (λ l. e.1 ∷ l) ih
+
+pub values_with : (w : World) (k : Bor (List ℕ)) (t : MemberId) (es : List (Bor (List ℕ) × MemberId)) → k.now ≡ (class_at w t.class).name → AreNamed w es → values_of (insert_entry (λ x y. slice_cmp nat_cmp x.now y.now) es k t) ≡ with_target w t (values_of es)
+unfolding with_target
+values_with w k t [] f h = refl
+values_with w k t (e ∷ es) f h =
+    values_at w k t e es (slice_cmp nat_cmp k.now e.0.now) (values_with w k t es f h.1)
+    ∙ ap (λ o. match_ordering o (t ∷ e.1 ∷ values_of es) (t ∷ values_of es) (e.1 ∷ with_target w t (values_of es))) (name_same w k t e.1 e.0.now f h.0)
+
+named_at : (w : World) (k : Bor (List ℕ)) (t : MemberId) (e : Bor (List ℕ) × MemberId) (es : List (Bor (List ℕ) × MemberId)) (o : Ordering) → slice_cmp nat_cmp k.now e.0.now ≡ o → k.now ≡ (class_at w t.class).name → AreNamed w (e ∷ es) → AreNamed w (insert_entry (λ x y. slice_cmp nat_cmp x.now y.now) es k t) → AreNamed w (match_ordering o ((k, t) ∷ e ∷ es) ((e.0, t) ∷ es) (e ∷ insert_entry (λ x y. slice_cmp nat_cmp x.now y.now) es k t))
+named_at w k t e es Less o f h ih = (f, h)
+named_at w k t e es Equal o f h ih = (sym (exact_bytes k.now e.0.now o) ∙ f, h.1)
+named_at w k t e es Greater o f h ih = (h.0, ih)
+
+pub named_with : (w : World) (k : Bor (List ℕ)) (t : MemberId) (es : List (Bor (List ℕ) × MemberId)) → k.now ≡ (class_at w t.class).name → AreNamed w es → AreNamed w (insert_entry (λ x y. slice_cmp nat_cmp x.now y.now) es k t)
+named_with w k t [] f h = (f, tt)
+named_with w k t (e ∷ es) f h = named_at w k t e es (slice_cmp nat_cmp k.now e.0.now) refl f h (named_with w k t es f h.1)
+
+-- ---- names
+
+or_none : (a b : Option WorldFault) → option_or a b ≡ None → (a ≡ None) × (b ≡ None)
+or_none None b h = (refl, h)
+or_none (Some x) b h = absurd cc
+
+pub first_none : (f : ℕ → Option WorldFault) (n c k : ℕ) → first_number f n c ≡ None → c ≤ k → k < c + n → f k ≡ None
+unfolding first_number
+first_none f zero c k h le lt = absurd (omega arith)
+first_none f (suc n) c k h le lt =
+    let parts = or_none (f c) (first_number f n (suc c)) h in
+    elim (cases_lt c k) [
+      | inl below ↦ first_none f n (suc c) k parts.1 below (omega arith)
+      | inr past ↦ let same : c ≡ k = omega arith in ap f (sym same) ∙ parts.0
+    ]
+
+first_by : (p : ClassRecord → Bool) (x : ClassRecord) (xs : List ClassRecord) (a : ℕ) (d : ClassRecord) (b : Bool) → p x ≡ b → a < length (x ∷ xs) → p (get_or (x ∷ xs) a d) ≡ true → ((k : ℕ) → k < length xs → p (get_or xs k d) ≡ true → (i : ℕ) × (position p xs ≡ Some i) × (i ≤ k)) → (i : ℕ) × (position p (x ∷ xs) ≡ Some i) × (i ≤ a)
+first_by p x xs a d true e lt h ih = (0, position_hit p x xs e, omega arith)
+first_by p x xs zero d false e lt h ih = absurd (true≢false (sym h ∙ e))
+first_by p x xs (suc a) d false e lt h ih = let r = ih a (omega arith) h in (r.0 + 1, position_behind p x xs r.0 e r.1, omega (arith, r.2))
+
+place_first : (p : ClassRecord → Bool) (xs : List ClassRecord) (d : ClassRecord) (a : ℕ) → a < length xs → p (get_or xs a d) ≡ true → (i : ℕ) × (position p xs ≡ Some i) × (i ≤ a)
+place_first p [] d a lt h = absurd (omega arith)
+place_first p (x ∷ xs) d a lt h = first_by p x xs a d (p x) refl lt h (place_first p xs d)
+
+if_none : (b : Bool) (x : WorldFault) → (if b then Some x else None) ≡ None → b ≡ false
+if_none true x h = absurd cc
+if_none false x h = refl
+
+not_twice : (w : World) (b : ℕ) → twice w b ≡ None → is_twice w b ≡ false
+unfolding twice
+not_twice w b h = if_none (is_twice w b) (Twice (class_at w b).name) h
+
+lower_twice : (w : World) (b i : ℕ) → position (is_named (class_at w b).name) w ≡ Some i → is_twice w b ≡ nat_lt i b
+unfolding number_of
+lower_twice w b i h = ap (λ o. option_map_or (λ d. nat_lt d b) o false) h
+
+apart : (w : World) → first_class w (twice w) ≡ None → (a b : ℕ) → a < b → b < length w → (class_at w a).name ≡ (class_at w b).name → ⊥
+apart w h a b lt lb e =
+    let first = place_first (is_named (class_at w b).name) w object_class a (omega arith) ((bytes_eq-Decides (class_at w a).name (class_at w b).name).1 e) in
+    let past : b ≤ first.0 = ltb-false first.0 b (sym (lower_twice w b first.0 first.1) ∙ not_twice w b (first_none (twice w) (length w) 0 b h (omega arith) (omega arith))) in
+    omega (arith, past, first.2)
+
+pub has_names : (w : World) → first_class w (twice w) ≡ None → HasNames w
+has_names w h a b la lb e = elim (cases_lt a b) [
+  | inl lt ↦ absurd (apart w h a b lt lb e)
+  | inr ge ↦ elim (cases_lt b a) [ inl lt ↦ absurd (apart w h b a lt la (sym e)) | inr le ↦ omega arith ]
+]
+
+pub own_name : (w : World) → first_class w (twice w) ≡ None → (c : ℕ) → c < length w → number_of w (class_at w c).name ≡ Some c
+unfolding number_of
+own_name w h c lt =
+    let first = place_first (is_named (class_at w c).name) w object_class c lt ((bytes_eq-Decides (class_at w c).name (class_at w c).name).1 refl) in
+    let past : c ≤ first.0 = ltb-false first.0 c (sym (lower_twice w c first.0 first.1) ∙ not_twice w c (first_none (twice w) (length w) 0 c h (omega arith) (omega arith))) in
+    let same : first.0 ≡ c = omega (arith, past, first.2) in
+    first.1 ∙ ap Some same
+
+-- ---- all receivers
+
+pub collects_start : (w : World) (c : ℕ) (m : MemberId) → Collects w c m 0 [] None
+collects_start w c m = record {
+  all = λ t. (λ k. absurd (omega (arith, k.1)), λ g. absurd (omega (arith, g.1)));
+  in_order = λ i j d lt within. absurd (omega arith);
+  first = λ x g. absurd (omega (arith, g.1));
+}
+
+targets_all : (w : World) (c : ℕ) (m : MemberId) (xs : List MemberId) → Collects w c m (length w) xs None → AreTargets w c m xs
+targets_all w c m xs h = record { all = h.all; in_order = h.in_order; no_fault = h.first }
+
+fault_all : (w : World) (c : ℕ) (m : MemberId) (xs : List MemberId) (f : ResolveFault) → Collects w c m (length w) xs (Some f) → IsFirstFault w c m f
+fault_all w c m xs f h = record { met = h.first.0; first = h.first.1 }
+
+pub targets_end : (w : World) (c : ℕ) (m : MemberId) (n : ℕ) (xs : List MemberId) (o : Option ResolveFault) → n ≡ length w → o ≡ None → Collects w c m n xs o → AreTargets w c m xs
+targets_end w c m n xs o e f h = targets_all w c m xs (subst (λ q. Collects w c m (length w) xs q) f (subst (λ k. Collects w c m k xs o) e h))
+
+pub fault_end : (w : World) (c : ℕ) (m : MemberId) (n : ℕ) (xs : List MemberId) (o : Option ResolveFault) (x : ResolveFault) → n ≡ length w → o ≡ Some x → Collects w c m n xs o → IsFirstFault w c m x
+fault_end w c m n xs o x e f h = fault_all w c m xs x (subst (λ q. Collects w c m (length w) xs q) f (subst (λ k. Collects w c m k xs o) e h))
+
+pub targets_there : (w : World) (c : ℕ) (m : MemberId) (xs : List MemberId) → HasMethod w m → AreTargets w c m xs → All (HasMethod w) xs
+targets_there w c m xs there h = λ k d lt.
+    let g = (h.all (get_or xs k d)).0 (Contains-get_or xs k d lt) in
+    selected_there w m g.0 (get_or xs k d) g.1 there g.3

@@ -1,0 +1,6 @@
+use Rattle.world.proofs.There.{field_from_there}
+use Rattle.world.proofs.world.World.resolve_field.Goals as goal
+
+pub returns-in_ok-field-in-Some-clause-there : goal.returns-in_ok-field-in-Some-clause-there
+returns-in_ok-field-in-Some-clause-there c =
+    field_from_there c.args.self.now c.args.name.now c.args.desc.now c.in-Some.class c.in_ok-field-in-Some.field c.in-Some.ensures.bound (rw (c.as_slice.ensures, c.as_slice-in-Some.ensures) at c.in_ok-field-in-Some.ensures)

@@ -1,31 +1,43 @@
--- A list that is seen the other way round.
-use Rattle.std.proofs.Common.{◌≡◌, ◌≢◌, ℕ, ◌-◌, ◌<◌, List, length, reverse, sym, ◌∙◌, ap, arith, get_or, set, get_or-set_other, get_or-set_same, length-set, inl, inr}
-use Rattle.std.proofs.lemmas.List.{ext_get_or, get_or-reverse, length-reverse}
-use Rattle.std.proofs.lemmas.Bool.{cases_eq}
+-- Lists that are seen the other way round.
+use Rattle.std.proofs.Common.{◌≡◌, ℕ, zero, suc, ◌-◌, ◌≤◌, List, [], ◌∷◌, ◌++◌, length, take, drop, reverse, refl, sym, ◌∙◌, ap, arith}
+use Rattle.std.specs.Prelude.{slice_set}
+use Rattle.std.proofs.lemmas.List.{reverse-append, reverse-reverse, take-append-drop, take-append-le, take_all, length-reverse, length-drop}
+use Rattle.std.proofs.Math.Seq.{drop-append_seam}
 
--- a value that is put in the place of another, counted from the other end
-pub reverse-set : {X : Type 0} (xs : List X) (depth place : ℕ) (v : X) → depth < length xs → place ≡ length xs - 1 - depth
-    → reverse (set xs place v) ≡ set (reverse xs) depth v
-reverse-set {X} xs depth place v within at =
-    let long : length (reverse xs) ≡ length xs = length-reverse xs in
-    let kept : length (set xs place v) ≡ length xs = length-set xs place v in
-    ext_get_or v (reverse (set xs place v)) (set (reverse xs) depth v)
-    (length-reverse (set xs place v) ∙ kept ∙ sym long ∙ sym (length-set (reverse xs) depth v))
-    (λ i below.
-    let inside : i < length xs = omega (arith, length-reverse (set xs place v), kept, below) in
-    let inside' : i < length (set xs place v) = omega arith in
-    let there : get_or (reverse (set xs place v)) i v ≡ get_or (set xs place v) (length (set xs place v) - 1 - i) v = get_or-reverse (set xs place v) i v inside' in
-    let here : get_or (reverse xs) i v ≡ get_or xs (length xs - 1 - i) v = get_or-reverse xs i v inside in
-    elim (cases_eq i depth) as (λ _. get_or (reverse (set xs place v)) i v ≡ get_or (set (reverse xs) depth v) i v) [
-      | inl same ↦
-          let e : length (set xs place v) - 1 - i ≡ place = omega arith in
-          let lt : place < length xs = omega arith in
-          let lt' : depth < length (reverse xs) = omega arith in
-          there ∙ ap (λ (k : ℕ). get_or (set xs place v) k v) e ∙ get_or-set_same xs place v v lt
-          ∙ sym (ap (λ (k : ℕ). get_or (set (reverse xs) depth v) k v) same ∙ get_or-set_same (reverse xs) depth v v lt')
-      | inr other ↦
-          let e : length (set xs place v) - 1 - i ≡ length xs - 1 - i = omega arith in
-          let ne : length xs - 1 - i ≢ place = omega arith in
-          there ∙ ap (λ (k : ℕ). get_or (set xs place v) k v) e ∙ get_or-set_other xs place (length xs - 1 - i) v v ne
-          ∙ sym here ∙ sym (get_or-set_other (reverse xs) depth i v v other)
-    ])
+-- a list the other way round, in two parts
+parts : {X : Type 0} (xs : List X) (n : ℕ) → reverse xs ≡ reverse (drop (length xs - n) xs) ++ reverse (take (length xs - n) xs)
+parts xs n = ap reverse (sym (take-append-drop (length xs - n) xs)) ∙ reverse-append (take (length xs - n) xs) (drop (length xs - n) xs)
+
+long : {X : Type 0} (xs : List X) (n : ℕ) → n ≤ length xs → length (reverse (drop (length xs - n) xs)) ≡ n
+long xs n within = omega (arith, length-reverse (drop (length xs - n) xs), length-drop (length xs - n) xs)
+
+-- without the last so many values, the other way round
+pub reverse-take : {X : Type 0} (xs : List X) (n : ℕ) → n ≤ length xs → reverse (take (length xs - n) xs) ≡ drop n (reverse xs)
+reverse-take {X} xs n within =
+    let front : List X = reverse (drop (length xs - n) xs) in
+    let back : List X = reverse (take (length xs - n) xs) in
+    sym (ap (drop n) (parts xs n) ∙ ap (λ (m : ℕ). drop m (front ++ back)) (sym (long xs n within)) ∙ drop-append_seam front back)
+
+-- the last so many values, as they are
+pub reverse-take-reverse : {X : Type 0} (xs : List X) (n : ℕ) → n ≤ length xs → reverse (take n (reverse xs)) ≡ drop (length xs - n) xs
+reverse-take-reverse {X} xs n within =
+    let front : List X = reverse (drop (length xs - n) xs) in
+    let back : List X = reverse (take (length xs - n) xs) in
+    let cut : take n (front ++ back) ≡ take n front = take-append-le n front back (omega (arith, long xs n within)) in
+    let whole : take n front ≡ front = take_all n front (omega (arith, long xs n within)) in
+    ap reverse (ap (take n) (parts xs n) ∙ cut ∙ whole) ∙ reverse-reverse (drop (length xs - n) xs)
+
+-- another value in the place of the last
+last_set : {X : Type 0} (xs : List X) (n : ℕ) (x : X) → suc n ≡ length xs → slice_set xs n x ≡ take n xs ++ x ∷ []
+last_set [] n x is = absurd (omega (arith, is))
+last_set (y ∷ []) zero x is = refl
+last_set (y ∷ z ∷ xs) zero x is = absurd (omega (arith, is))
+last_set {X} (y ∷ xs) (suc n) x is = ap (λ (rest : List X). y ∷ rest) (last_set xs n x (omega (arith, is)))
+
+-- another value in the place of the top
+pub top_set : {X : Type 0} (xs : List X) (n : ℕ) (x : X) → suc n ≡ length xs → reverse (slice_set xs n x) ≡ x ∷ drop 1 (reverse xs)
+top_set {X} xs n x is =
+    ap reverse (last_set xs n x is) ∙ reverse-append (take n xs) (x ∷ [])
+    ∙ ap (λ (rest : List X). x ∷ rest) (ap (λ (m : ℕ). reverse (take m xs)) (let e : n ≡ length xs - 1 = omega (arith, is) in e) ∙ reverse-take xs 1 (omega (arith, is)))
+
+pub ruleset ends = (reverse-take, reverse-take-reverse, reverse-append, length-reverse)

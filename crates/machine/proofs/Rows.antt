@@ -1,148 +1,418 @@
--- Each step is a row.
-use Rattle.std.proofs.Common.{◌≡◌, ℕ, ◌+◌, ◌<◌, ◌≤◌, Bool, true, false, ◌&&◌, length, Option, Some, None, refl, sym, ◌∙◌, ap, arith}
-use Rattle.std.specs.Prelude.{slice_get, nat_le, nat_lt, if◌then◌else◌}
+-- Each outcome is a row.
+use Rattle.std.proofs.Common.{◌≡◌, ℕ, ◌+◌, Bool, true, false, List, [], ◌∷◌, Option, Some, None, Result, Ok, Err, refl, sym, subst, arith}
+use Rattle.std.specs.Prelude.{ℤ, if◌then◌else◌, codes}
+use Rattle.std.specs.Result.{result_ok}
 use Rattle.std.proofs.lemmas.Grind.{common_steps}
 use Rattle.std.proofs.lemmas.Bool.Decides.{nat_tests}
-use Rattle.class_reader.specs.declared.class.ClassRecord.{ClassRecord}
-use Rattle.class_reader.specs.declared.class.Method.{Method}
+use Rattle.class_pool.specs.declared.constant.Constant.{Constant}
+use Rattle.class_pool.specs.Pool.{constant_at, int_of, long_of}
+use Rattle.op_table.specs.Actions.{action_of}
+use Rattle.op_table.specs.declared.acts.Action.{Action}
+use Rattle.op_table.specs.declared.acts.Action.TheVariants as acts
+use Rattle.op_table.specs.declared.acts.Arithmetic.{Arithmetic}
+use Rattle.op_table.specs.declared.acts.Kind.{Kind}
+use Rattle.op_table.specs.declared.acts.Kind.TheVariants as kinds
+use Rattle.op_table.specs.declared.acts.Logic.{Logic}
+use Rattle.op_table.specs.declared.acts.Shift.{Shift}
+use Rattle.op_table.specs.declared.acts.Shuffle.{Shuffle}
+use Rattle.op_table.specs.declared.acts.Small.{Small}
+use Rattle.op_table.specs.declared.acts.Width.{Width}
+use Rattle.op_table.specs.declared.acts.Width.TheVariants as widths
+use Rattle.op_table.specs.declared.acts.Call.{Call}
+use Rattle.op_table.specs.declared.acts.Call.TheVariants.{Virtual, Special, Static, Interface}
+use Rattle.world.specs.declared.member.MemberId.{MemberId}
+use Rattle.world.specs.declared.fault.ResolveFault.{ResolveFault}
+use Rattle.world.specs.World.{World, is_below, is_instantiable}
+use Rattle.world.specs.Selection.{method_of, selected_by}
+use Rattle.class_reader.specs.Flags.{is_native}
 use Rattle.class_reader.specs.declared.class.Code.{Code}
-use Rattle.op_table.specs.declared.action.Action.{Action}
-use Rattle.op_table.specs.declared.action.Action.TheVariants.{Nothing, Push, Load, Store, Shuffle, Arithmetic, Negate, Increment, ReturnInt, ReturnVoid}
-use Rattle.op_table.specs.declared.action.Instruction.{Instruction}
-use Rattle.op_table.specs.Instructions.{instruction_at, is_return}
-use Rattle.machine.specs.declared.state.Stop.{Stop}
-use Rattle.machine.specs.declared.state.Stop.TheVariants.{Shape, Support}
-use Rattle.machine.specs.declared.state.Status.{Status}
-use Rattle.machine.specs.declared.state.Status.TheVariants as statuses
-use Rattle.machine.specs.declared.state.State.{State}
-use Rattle.machine.specs.Step.{Step, Words, Stops, goes_on, leaves_if, settled, acts, standing, standing_on, standing_in, outcome_of, weight_of, settle, step_from, step_of, words_after, returns_int, returns_nothing, plain_result, top_is_int}
-use Rattle.machine.specs.Row.{Row, goes, leaves, stops}
+use Rattle.machine.specs.declared.heap.Cell.{Cell}
+use Rattle.machine.specs.declared.heap.Cell.TheVariants.{Object, Array}
+use Rattle.machine.specs.Types.{parameters_of, result_of, is_type, words_of_all}
+use Rattle.machine.specs.Heap.{Cells, cell_at, free_number, with_cell, new_fields, is_of_type, is_of_class, class_of}
+use Rattle.machine.specs.Calling.{Meant, Handed, stop, meant_at, linked, receiver_words, taken, are_words, waiting, new_frame, narrowed_to, class_meant, make_object, new_object, return_popped, return_value, throw_popped, or_link, selects, target, has_locals, enter_code, enter_target, hand_over, call_linked, call_meant, call}
+use Rattle.machine.specs.declared.values.Value.{Value}
+use Rattle.machine.specs.declared.values.Value.TheVariants.{Int, Long, Pad, Null, Ref}
+use Rattle.machine.specs.declared.configuration.Here.{Here}
+use Rattle.machine.specs.declared.configuration.Stop.TheVariants as stop_kinds
+use Rattle.machine.specs.declared.configuration.Thrown.{Thrown}
+use Rattle.machine.specs.declared.configuration.Thrown.TheVariants as thrown
+use Rattle.machine.specs.Numbers.{wrapped, exact, throws, wraps, distance, shifted, combined, narrowed, compared}
+use Rattle.machine.specs.Words.{Popped, PoppedNumber, PoppedTwo, popped, popped_number, popped_two, shuffled, loaded, stored}
+use Rattle.machine.specs.Outcome.{Effect, Goes, Wraps, Throws, Stops, Stays, Enters, Leaves, Standing, code_at, went, next_pc, moved, has_room, goes_on}
+use Rattle.machine.specs.Computing as making
+use Rattle.machine.specs.Computing.{Made, Makes, Fails, made, words_after}
+use Rattle.machine.specs.Row as rows
+use Rattle.machine.specs.Row.{Computed, Row, RowAt, HasRoom}
+use Rattle.machine.specs.Step.{standing_at, acts_on, outcome_on, outcome_of}
 
--- a step that a configuration takes while it runs
-running_step : (weights : ℕ → ℕ) (class : ClassRecord) (before now : State) → Step weights class before now
-    → now ≡ (step_from statuses.Running weights class before).1
-unfolding step_of
-running_step weights class before now s = s.made ∙ ap (λ (status : Status). (step_from status weights class before).1) s.runs
+-- ---- instructions that change words alone
 
--- a stop, from what it makes
-stop_row : (weights : ℕ → ℕ) (class : ClassRecord) (before now : State) (weight : ℕ) (k : Stop) → now ≡ (settle weight before (Stops k)).1
-    → Row weights class before now
-stop_row weights class before now weight k made =
-    stops k (ap (λ (s : State). s.spent) made) (ap (λ (s : State). s.status) made)
+-- a division by 0, which is all that such an instruction throws
+pub data Divides (stack : List Value) : Action → Thrown → Type 0 where
+  by_zero : {op : Arithmetic} {w : Width} {p : PoppedTwo} → popped_two w w stack ≡ Some p → throws op p.second ≡ true
+      → Divides stack (acts.Arithmetic op w) thrown.Arithmetic
 
--- going on within the code, from what it makes
-go_row : (weights : ℕ → ℕ) (class : ClassRecord) (before now : State) (method : Method) (code : Code) (i : Instruction) (words : Words) (wraps : Bool)
-    → slice_get class.methods before.frame.method ≡ Some method → method.code ≡ Some code → instruction_at code.bytes before.frame.pc ≡ Some i
-    → is_return i.action ≡ false → before.frame.pc + i.length < length code.bytes
-    → now ≡ (settle (weights i.opcode) before (goes_on wraps (record {
-      method = before.frame.method;
-      pc = before.frame.pc + i.length;
-      locals = words.locals;
-      stack = words.stack;
-    }))).1
-    → Row weights class before now
-go_row weights class before now method code i words false here has at on inside made =
-    goes method code i here has at on (ap (λ (s : State). s.frame.method) made) (ap (λ (s : State). s.frame.pc) made)
-    (let same : now.frame.pc ≡ before.frame.pc + i.length = ap (λ (s : State). s.frame.pc) made in omega arith)
-    (ap (λ (s : State). s.spent) made) (ap (λ (s : State). s.status) made)
-go_row weights class before now method code i words true here has at on inside made =
-    goes method code i here has at on (ap (λ (s : State). s.frame.method) made) (ap (λ (s : State). s.frame.pc) made)
-    (let same : now.frame.pc ≡ before.frame.pc + i.length = ap (λ (s : State). s.frame.pc) made in omega arith)
-    (ap (λ (s : State). s.spent) made) (ap (λ (s : State). s.status) made)
+-- what is made is a row, or throws, or stops
+abbrev pub IsMade : List (Option Constant) → List Value → List Value → Action → Made → Type 0
+IsMade pool locals stack action (Makes wrapping now after) = Computed pool locals stack action wrapping now after
+IsMade pool locals stack action (Fails (Stops k)) = Unit {0}
+IsMade pool locals stack action (Fails (Throws k)) = Divides stack action k
+IsMade pool locals stack action (Fails Goes) = ⊥
+IsMade pool locals stack action (Fails Wraps) = ⊥
 
--- words that may go on, by whether they fit
-tested_row : (weights : ℕ → ℕ) (class : ClassRecord) (before now : State) (method : Method) (code : Code) (i : Instruction) (words : Words) (fits : Bool)
-    → slice_get class.methods before.frame.method ≡ Some method → method.code ≡ Some code → instruction_at code.bytes before.frame.pc ≡ Some i
-    → is_return i.action ≡ false → (fits ≡ true → before.frame.pc + i.length < length code.bytes)
-    → now ≡ (settle (weights i.opcode) before (if fits then goes_on words.wraps (record {
-      method = before.frame.method;
-      pc = before.frame.pc + i.length;
-      locals = words.locals;
-      stack = words.stack;
-    }) else Stops Shape)).1
-    → Row weights class before now
-tested_row weights class before now method code i words false here has at on inside made = stop_row weights class before now (weights i.opcode) Shape made
-tested_row weights class before now method code i words true here has at on inside made =
-    go_row weights class before now method code i words words.wraps here has at on (inside refl) made
+int_made : (pool : List (Option Constant)) (locals stack : List Value) (i : ℕ) (found : Option ℤ) → int_of (constant_at pool i) ≡ found
+    → IsMade pool locals stack (acts.PushConstant i) (making.constant Int (constant_at pool i) locals stack found)
+int_made pool locals stack i None is = tt
+int_made pool locals stack i (Some n) is = rows.int_constant is
 
--- an instruction that doesn't return, by what it makes of the frame's words
-settled_row : (weights : ℕ → ℕ) (class : ClassRecord) (before now : State) (method : Method) (code : Code) (i : Instruction) (words : Option Words)
-    → slice_get class.methods before.frame.method ≡ Some method → method.code ≡ Some code → instruction_at code.bytes before.frame.pc ≡ Some i
-    → is_return i.action ≡ false
-    → now ≡ (settle (weights i.opcode) before (settled code before.frame (before.frame.pc + i.length) words)).1
-    → Row weights class before now
-settled_row weights class before now method code i None here has at on made = stop_row weights class before now (weights i.opcode) Shape made
-settled_row weights class before now method code i (Some words) here has at on made =
-    tested_row weights class before now method code i words
-    (nat_le (length words.stack) code.max_stack && nat_lt (before.frame.pc + i.length) (length code.bytes))
-    here has at on (λ fits. grind (arith, nat_tests, common_steps)) made
+long_made : (pool : List (Option Constant)) (locals stack : List Value) (i : ℕ) (found : Option ℤ) → long_of (constant_at pool i) ≡ found
+    → IsMade pool locals stack (acts.PushLongConstant i) (making.constant Long (constant_at pool i) locals stack found)
+long_made pool locals stack i None is = tt
+long_made pool locals stack i (Some n) is = rows.long_constant is
 
--- an instruction that returns, by whether it may
-returned_row : (weights : ℕ → ℕ) (class : ClassRecord) (before now : State) (method : Method) (code : Code) (i : Instruction) (may : Bool)
-    → slice_get class.methods before.frame.method ≡ Some method → method.code ≡ Some code → instruction_at code.bytes before.frame.pc ≡ Some i
-    → is_return i.action ≡ true → now ≡ (settle (weights i.opcode) before (leaves_if may)).1
-    → Row weights class before now
-returned_row weights class before now method code i false here has at on made = stop_row weights class before now (weights i.opcode) Shape made
-returned_row weights class before now method code i true here has at on made =
-    leaves method code i here has at on (ap (λ (s : State). s.spent) made) (ap (λ (s : State). s.status) made)
+load_made : (pool : List (Option Constant)) (locals stack : List Value) (kind : Kind) (n : ℕ) (found : Option Value) → loaded kind locals n ≡ found
+    → IsMade pool locals stack (acts.Load kind n) (making.load locals stack found)
+load_made pool locals stack kind n None is = tt
+load_made pool locals stack kind n (Some value) is = rows.load is
 
--- an instruction, by its action
-acts_row : (weights : ℕ → ℕ) (class : ClassRecord) (before now : State) (method : Method) (code : Code) (i : Instruction) (action : Action)
-    → i.action ≡ action
-    → slice_get class.methods before.frame.method ≡ Some method → method.code ≡ Some code → instruction_at code.bytes before.frame.pc ≡ Some i
-    → now ≡ (settle (weights i.opcode) before (acts action method code before.frame (before.frame.pc + i.length))).1
-    → Row weights class before now
-acts_row weights class before now method code i ReturnInt is here has at made = returned_row weights class before now method code i (returns_int (plain_result method.desc) && top_is_int before.frame.stack) here has at (ap is_return is) made
-acts_row weights class before now method code i ReturnVoid is here has at made = returned_row weights class before now method code i (returns_nothing (plain_result method.desc)) here has at (ap is_return is) made
-acts_row weights class before now method code i Nothing is here has at made = settled_row weights class before now method code i (words_after Nothing before.frame.locals before.frame.stack) here has at (ap is_return is) made
-acts_row weights class before now method code i (Push n) is here has at made = settled_row weights class before now method code i (words_after (Push n) before.frame.locals before.frame.stack) here has at (ap is_return is) made
-acts_row weights class before now method code i (Load n) is here has at made = settled_row weights class before now method code i (words_after (Load n) before.frame.locals before.frame.stack) here has at (ap is_return is) made
-acts_row weights class before now method code i (Store n) is here has at made = settled_row weights class before now method code i (words_after (Store n) before.frame.locals before.frame.stack) here has at (ap is_return is) made
-acts_row weights class before now method code i (Shuffle s) is here has at made = settled_row weights class before now method code i (words_after (Shuffle s) before.frame.locals before.frame.stack) here has at (ap is_return is) made
-acts_row weights class before now method code i (Arithmetic a) is here has at made = settled_row weights class before now method code i (words_after (Arithmetic a) before.frame.locals before.frame.stack) here has at (ap is_return is) made
-acts_row weights class before now method code i Negate is here has at made = settled_row weights class before now method code i (words_after Negate before.frame.locals before.frame.stack) here has at (ap is_return is) made
-acts_row weights class before now method code i (Increment n k) is here has at made = settled_row weights class before now method code i (words_after (Increment n k) before.frame.locals before.frame.stack) here has at (ap is_return is) made
+store_in_made : (pool : List (Option Constant)) (locals stack : List Value) (kind : Kind) (n : ℕ) (p : Popped) (now : Option (List Value))
+    → popped kind stack ≡ Some p → stored locals n p.value ≡ now
+    → IsMade pool locals stack (acts.Store kind n) (making.store_in p.rest now)
+store_in_made pool locals stack kind n p None is to = tt
+store_in_made pool locals stack kind n p (Some now) is to = rows.store is to
 
--- what stands at a place of a method's code, by whether anything does
-instruction_row : (weights : ℕ → ℕ) (class : ClassRecord) (before now : State) (method : Method) (code : Code) (found : Option Instruction)
-    → slice_get class.methods before.frame.method ≡ Some method → method.code ≡ Some code → instruction_at code.bytes before.frame.pc ≡ found
-    → now ≡ (settle (weight_of weights (standing method code found)) before (outcome_of before.frame (standing method code found))).1
-    → Row weights class before now
-instruction_row weights class before now method code None here has at made = stop_row weights class before now 0 Support made
-instruction_row weights class before now method code (Some i) here has at made = acts_row weights class before now method code i i.action refl here has at made
+store_made : (pool : List (Option Constant)) (locals stack : List Value) (kind : Kind) (n : ℕ) (found : Option Popped) → popped kind stack ≡ found
+    → IsMade pool locals stack (acts.Store kind n) (making.store locals n found)
+store_made pool locals stack kind n None is = tt
+store_made pool locals stack kind n (Some p) is = store_in_made pool locals stack kind n p (stored locals n p.value) is refl
 
--- the code, by whether the method has it
-code_row : (weights : ℕ → ℕ) (class : ClassRecord) (before now : State) (method : Method) (found : Option Code)
-    → slice_get class.methods before.frame.method ≡ Some method → method.code ≡ found
-    → now ≡ (settle (weight_of weights (standing_on method found before.frame.pc)) before (outcome_of before.frame (standing_on method found before.frame.pc))).1
-    → Row weights class before now
-code_row weights class before now method None here has made = stop_row weights class before now 0 Support made
-code_row weights class before now method (Some code) here has made =
-    instruction_row weights class before now method code (instruction_at code.bytes before.frame.pc) here has refl made
+shuffle_made : (pool : List (Option Constant)) (locals stack : List Value) (s : Shuffle) (found : Option (List Value)) → shuffled s stack ≡ found
+    → IsMade pool locals stack (acts.Shuffle s) (making.shuffle locals found)
+shuffle_made pool locals stack s None is = tt
+shuffle_made pool locals stack s (Some now) is = rows.shuffle is
 
--- the method, by whether the class has it
-method_row : (weights : ℕ → ℕ) (class : ClassRecord) (before now : State) (found : Option Method)
-    → slice_get class.methods before.frame.method ≡ found
-    → now ≡ (settle (weight_of weights (standing_in found before.frame.pc)) before (outcome_of before.frame (standing_in found before.frame.pc))).1
-    → Row weights class before now
-method_row weights class before now None here made = stop_row weights class before now 0 Support made
-method_row weights class before now (Some method) here made = code_row weights class before now method method.code here refl made
+divided_made : (pool : List (Option Constant)) (locals stack : List Value) (op : Arithmetic) (w : Width) (p : PoppedTwo) (zero : Bool)
+    → popped_two w w stack ≡ Some p → throws op p.second ≡ zero
+    → IsMade pool locals stack (acts.Arithmetic op w)
+    (if zero then Fails (Throws thrown.Arithmetic) else making.result w (wraps op w (exact op p.first p.second)) locals p.rest (exact op p.first p.second))
+divided_made pool locals stack op w p true is by = by_zero is by
+divided_made pool locals stack op w p false is by = rows.arithmetic is by
 
--- each step is a row
-pub step_is_row : (weights : ℕ → ℕ) (class : ClassRecord) (before now : State) → Step weights class before now → Row weights class before now
-step_is_row weights class before now s =
-    method_row weights class before now (slice_get class.methods before.frame.method) refl (running_step weights class before now s)
+arithmetic_made : (pool : List (Option Constant)) (locals stack : List Value) (op : Arithmetic) (w : Width) (found : Option PoppedTwo) → popped_two w w stack ≡ found
+    → IsMade pool locals stack (acts.Arithmetic op w) (making.arithmetic op w locals found)
+arithmetic_made pool locals stack op w None is = tt
+arithmetic_made pool locals stack op w (Some p) is = divided_made pool locals stack op w p (throws op p.second) is refl
 
--- a configuration has at most one next
-pub step_is_unique : (weights : ℕ → ℕ) (class : ClassRecord) (before one other : State) → Step weights class before one → Step weights class before other
-    → one ≡ other
-step_is_unique weights class before one other to_one to_other = to_one.made ∙ sym to_other.made
+negate_made : (pool : List (Option Constant)) (locals stack : List Value) (w : Width) (found : Option PoppedNumber) → popped_number w stack ≡ found
+    → IsMade pool locals stack (acts.Negate w) (making.negate w locals found)
+negate_made pool locals stack w None is = tt
+negate_made pool locals stack w (Some p) is = rows.negate is
 
-row_spends : (weights : ℕ → ℕ) (class : ClassRecord) (before now : State) → Row weights class before now → before.spent ≤ now.spent
-row_spends weights class before now (goes method code i here has at on same next inside spent running) = omega arith
-row_spends weights class before now (leaves method code i here has at on spent ended) = omega arith
-row_spends weights class before now (stops k spent stopped) = omega arith
+shift_made : (pool : List (Option Constant)) (locals stack : List Value) (s : Shift) (w : Width) (found : Option PoppedTwo) → popped_two w widths.Int stack ≡ found
+    → IsMade pool locals stack (acts.Shift s w) (making.two (λ x k. shifted s w x (distance w k)) w locals found)
+shift_made pool locals stack s w None is = tt
+shift_made pool locals stack s w (Some p) is = rows.shift is
 
--- no step takes back what was spent
-pub step_spends : (weights : ℕ → ℕ) (class : ClassRecord) (before now : State) → Step weights class before now → before.spent ≤ now.spent
-step_spends weights class before now s = row_spends weights class before now (step_is_row weights class before now s)
+logic_made : (pool : List (Option Constant)) (locals stack : List Value) (l : Logic) (w : Width) (found : Option PoppedTwo) → popped_two w w stack ≡ found
+    → IsMade pool locals stack (acts.Logic l w) (making.two (combined l w) w locals found)
+logic_made pool locals stack l w None is = tt
+logic_made pool locals stack l w (Some p) is = rows.logic is
+
+increment_made : (pool : List (Option Constant)) (locals stack : List Value) (n : ℕ) (k : ℤ) (found : Option Value) → loaded kinds.Int locals n ≡ found
+    → IsMade pool locals stack (acts.Increment n k) (making.increment locals stack n k found)
+increment_made pool locals stack n k None is = tt
+increment_made pool locals stack n k (Some (Int z)) is = rows.increment is
+increment_made pool locals stack n k (Some (Long z)) is = tt
+increment_made pool locals stack n k (Some Pad) is = tt
+increment_made pool locals stack n k (Some Null) is = tt
+increment_made pool locals stack n k (Some (Ref r)) is = tt
+
+widen_made : (pool : List (Option Constant)) (locals stack : List Value) (found : Option PoppedNumber) → popped_number widths.Int stack ≡ found
+    → IsMade pool locals stack acts.IntToLong (making.one (λ z. z) widths.Long locals found)
+widen_made pool locals stack None is = tt
+widen_made pool locals stack (Some p) is = rows.int_to_long is
+
+cut_made : (pool : List (Option Constant)) (locals stack : List Value) (found : Option PoppedNumber) → popped_number widths.Long stack ≡ found
+    → IsMade pool locals stack acts.LongToInt (making.one (wrapped widths.Int) widths.Int locals found)
+cut_made pool locals stack None is = tt
+cut_made pool locals stack (Some p) is = rows.long_to_int is
+
+narrow_made : (pool : List (Option Constant)) (locals stack : List Value) (small : Small) (found : Option PoppedNumber) → popped_number widths.Int stack ≡ found
+    → IsMade pool locals stack (acts.Narrow small) (making.one (narrowed small) widths.Int locals found)
+narrow_made pool locals stack small None is = tt
+narrow_made pool locals stack small (Some p) is = rows.narrow is
+
+compare_made : (pool : List (Option Constant)) (locals stack : List Value) (found : Option PoppedTwo) → popped_two widths.Long widths.Long stack ≡ found
+    → IsMade pool locals stack acts.CompareLongs (making.two compared widths.Int locals found)
+compare_made pool locals stack None is = tt
+compare_made pool locals stack (Some p) is = rows.compare is
+
+-- what an instruction makes of words is a row
+pub words_made : (pool : List (Option Constant)) (locals stack : List Value) (action : Action) → IsMade pool locals stack action (words_after pool action locals stack)
+unfolding words_after
+words_made pool locals stack acts.Nothing = rows.nothing
+words_made pool locals stack acts.PushNull = rows.null
+words_made pool locals stack (acts.PushInt n) = rows.int
+words_made pool locals stack (acts.PushLong n) = rows.long
+words_made pool locals stack (acts.PushConstant i) = int_made pool locals stack i (int_of (constant_at pool i)) refl
+words_made pool locals stack (acts.PushLongConstant i) = long_made pool locals stack i (long_of (constant_at pool i)) refl
+words_made pool locals stack (acts.Load kind n) = load_made pool locals stack kind n (loaded kind locals n) refl
+words_made pool locals stack (acts.Store kind n) = store_made pool locals stack kind n (popped kind stack) refl
+words_made pool locals stack (acts.Shuffle s) = shuffle_made pool locals stack s (shuffled s stack) refl
+words_made pool locals stack (acts.Arithmetic op w) = arithmetic_made pool locals stack op w (popped_two w w stack) refl
+words_made pool locals stack (acts.Negate w) = negate_made pool locals stack w (popped_number w stack) refl
+words_made pool locals stack (acts.Shift s w) = shift_made pool locals stack s w (popped_two w widths.Int stack) refl
+words_made pool locals stack (acts.Logic l w) = logic_made pool locals stack l w (popped_two w w stack) refl
+words_made pool locals stack (acts.Increment n k) = increment_made pool locals stack n k (loaded kinds.Int locals n) refl
+words_made pool locals stack acts.IntToLong = widen_made pool locals stack (popped_number widths.Int stack) refl
+words_made pool locals stack acts.LongToInt = cut_made pool locals stack (popped_number widths.Long stack) refl
+words_made pool locals stack (acts.Narrow small) = narrow_made pool locals stack small (popped_number widths.Int stack) refl
+words_made pool locals stack acts.CompareLongs = compare_made pool locals stack (popped_two widths.Long widths.Long stack) refl
+words_made pool locals stack action = tt
+
+-- going on, where there is room
+room_row : (w : World) (s : Standing) (at : Here) (action : Action) (fit : Bool) (effect : Effect) (stack : List Value) (now : Here)
+    → has_room s.code (next_pc s at) stack ≡ fit → (HasRoom s at stack → Row w s at action (Stays effect now))
+    → Row w s at action (if fit then Stays effect now else Stays (Stops stop_kinds.Shape) at)
+room_row w s at action true effect stack now is row = row (record { height = grind (arith, nat_tests, common_steps); inside = grind (arith, nat_tests, common_steps) })
+room_row w s at action false effect stack now is row = rows.stops
+
+divides_row : (w : World) (s : Standing) (at : Here) (action : Action) (k : Thrown) → Divides at.frame.stack action k → Row w s at action (Stays (Throws k) at)
+divides_row w s at action k (by_zero is by) = rows.divides is by
+
+-- an instruction that changes words alone
+made_row : (w : World) (s : Standing) (at : Here) (action : Action) (what : Made)
+    → IsMade s.class.pool at.frame.locals at.frame.stack action what → Row w s at action (made s at what)
+made_row w s at action (Makes wrapping locals stack) is =
+    room_row w s at action (has_room s.code (next_pc s at) stack) (went wrapping) stack (moved s at locals stack at.heap) refl (λ room. rows.computes is room)
+made_row w s at action (Fails (Stops k)) is = rows.stops
+made_row w s at action (Fails (Throws k)) is = divides_row w s at action k is
+made_row w s at action (Fails Goes) is = absurd is
+made_row w s at action (Fails Wraps) is = absurd is
+
+words_row : (w : World) (s : Standing) (at : Here) (action : Action) → Row w s at action (made s at (words_after s.class.pool action at.frame.locals at.frame.stack))
+words_row w s at action =
+    made_row w s at action (words_after s.class.pool action at.frame.locals at.frame.stack) (words_made s.class.pool at.frame.locals at.frame.stack action)
+
+-- ---- new objects
+
+created_row : (w : World) (s : Standing) (at : Here) (i c : ℕ) (can : Bool) → class_meant w s.class.pool i ≡ Some c → is_instantiable w c ≡ can
+    → Row w s at (acts.New i) (if can then goes_on s at false at.frame.locals (Ref (free_number at.heap) ∷ at.frame.stack) (with_cell (Object c (new_fields w c)) at.heap) else stop stop_kinds.Link at)
+created_row w s at i c false is can = rows.stops
+created_row w s at i c true is can =
+    room_row w s at (acts.New i) (has_room s.code (next_pc s at) (Ref (free_number at.heap) ∷ at.frame.stack)) Goes (Ref (free_number at.heap) ∷ at.frame.stack)
+    (moved s at at.frame.locals (Ref (free_number at.heap) ∷ at.frame.stack) (with_cell (Object c (new_fields w c)) at.heap)) refl (λ room. rows.creates is can room)
+
+made_object_row : (w : World) (s : Standing) (at : Here) (i : ℕ) (found : Option ℕ) → class_meant w s.class.pool i ≡ found
+    → Row w s at (acts.New i) (make_object w s at found)
+made_object_row w s at i None is = rows.stops
+made_object_row w s at i (Some c) is = created_row w s at i c (is_instantiable w c) is refl
+
+new_row : (w : World) (s : Standing) (at : Here) (i : ℕ) → Row w s at (acts.New i) (new_object w s at i)
+unfolding new_object
+new_row w s at i = made_object_row w s at i (class_meant w s.class.pool i) refl
+
+-- ---- returns and what is thrown
+
+typed_row : (w : World) (s : Standing) (at : Here) (kind : Kind) (p : Popped) (typed : Bool) → popped kind at.frame.stack ≡ Some p
+    → is_of_type w at.heap (result_of s.method.desc) p.value ≡ typed
+    → Row w s at (acts.Return kind) (if typed then Leaves (Some (narrowed_to (result_of s.method.desc) p.value)) else stop stop_kinds.Shape at)
+typed_row w s at kind p true is of = rows.returns is of
+typed_row w s at kind p false is of = rows.stops
+
+popped_row : (w : World) (s : Standing) (at : Here) (kind : Kind) (found : Option Popped) → popped kind at.frame.stack ≡ found
+    → Row w s at (acts.Return kind) (return_popped w at (result_of s.method.desc) found)
+popped_row w s at kind None is = rows.stops
+popped_row w s at kind (Some p) is = typed_row w s at kind p (is_of_type w at.heap (result_of s.method.desc) p.value) is refl
+
+return_row : (w : World) (s : Standing) (at : Here) (kind : Kind) → Row w s at (acts.Return kind) (return_value w s at kind)
+unfolding return_value
+return_row w s at kind = popped_row w s at kind (popped kind at.frame.stack) refl
+
+nothing_row : (w : World) (s : Standing) (at : Here) (void : Bool) → is_type (codes "V") (result_of s.method.desc) ≡ void
+    → Row w s at acts.ReturnNothing (if void then Leaves None else stop stop_kinds.Shape at)
+nothing_row w s at true is = rows.returns_nothing is
+nothing_row w s at false is = rows.stops
+
+throw_row : (w : World) (s : Standing) (at : Here) (stack : List Value) → at.frame.stack ≡ stack → Row w s at acts.Throw (throw_popped at (popped kinds.Reference stack))
+throw_row w s at [] is = rows.stops
+throw_row w s at (Null ∷ stack) is = rows.null_thrown is
+throw_row w s at (Ref r ∷ stack) is = rows.given is
+throw_row w s at (Int n ∷ stack) is = rows.stops
+throw_row w s at (Long n ∷ stack) is = rows.stops
+throw_row w s at (Pad ∷ stack) is = rows.stops
+
+-- ---- calls
+
+ok_of : (r : Result MemberId ResolveFault) (m : MemberId) → result_ok r ≡ Some m → r ≡ Ok m
+ok_of (Ok n) m is = cc
+ok_of (Err e) m is = absurd (cc)
+
+-- what is known of a call when its method is looked for
+record Taken (w : World) (s : Standing) (at : Here) (call : Call) (i : ℕ) : Type 0 where
+  meant : Meant
+  names : meant_at w s.class.pool i ≡ Some meant
+  method : MemberId
+  links : linked w at.frame.method.class call meant ≡ Some method
+  handed : Handed
+  takes : taken (receiver_words call + words_of_all (parameters_of (method_of w method).desc)) at.frame.stack ≡ Some handed
+  typed : are_words w at.heap call (parameters_of (method_of w method).desc) handed.words ≡ true
+
+-- what a call's method is found to be
+abbrev IsFound : World → Cells → ℕ → MemberId → Call → List Value → Result MemberId Effect → Type 0
+IsFound w heap class m call words (Ok t) = rows.Dispatched w heap class m call words t
+IsFound w heap class m call words (Err (Stops k)) = Unit {0}
+IsFound w heap class m call words (Err (Throws k)) = k ≡ thrown.NullPointer
+IsFound w heap class m call words (Err Goes) = ⊥
+IsFound w heap class m call words (Err Wraps) = ⊥
+
+-- the class of the receiver selects
+selected_virtual : (w : World) (heap : Cells) (class r c : ℕ) (fields : List (MemberId × Value)) (m : MemberId) (words : List Value) (found : Option MemberId)
+    → cell_at heap r ≡ Some (Object c fields) → is_below w c class ≡ true → result_ok (selected_by w m c) ≡ found
+    → IsFound w heap class m Virtual (Ref r ∷ words) (or_link found)
+selected_virtual w heap class r c fields m words None at below is = tt
+selected_virtual w heap class r c fields m words (Some t) at below is = rows.virtual at below (ok_of (selected_by w m c) t is)
+
+selected_interface : (w : World) (heap : Cells) (class r c : ℕ) (fields : List (MemberId × Value)) (m : MemberId) (words : List Value) (found : Option MemberId)
+    → cell_at heap r ≡ Some (Object c fields) → is_below w c class ≡ true → result_ok (selected_by w m c) ≡ found
+    → IsFound w heap class m Interface (Ref r ∷ words) (or_link found)
+selected_interface w heap class r c fields m words None at below is = tt
+selected_interface w heap class r c fields m words (Some t) at below is = rows.interface at below (ok_of (selected_by w m c) t is)
+
+virtual_found : (w : World) (heap : Cells) (class r : ℕ) (m : MemberId) (words : List Value) (cell : Option Cell) (of_class : Bool)
+    → cell_at heap r ≡ cell → is_of_class w class cell ≡ of_class
+    → IsFound w heap class m Virtual (Ref r ∷ words) (if of_class then selects w Virtual m (class_of cell) else Err (Stops stop_kinds.Receiver))
+virtual_found w heap class r m words cell false at of = tt
+virtual_found w heap class r m words None true at of = absurd (cc)
+virtual_found w heap class r m words (Some (Object c fields)) true at of = selected_virtual w heap class r c fields m words (result_ok (selected_by w m c)) at of refl
+virtual_found w heap class r m words (Some (Array element items)) true at of = tt
+
+interface_found : (w : World) (heap : Cells) (class r : ℕ) (m : MemberId) (words : List Value) (cell : Option Cell) (of_class : Bool)
+    → cell_at heap r ≡ cell → is_of_class w class cell ≡ of_class
+    → IsFound w heap class m Interface (Ref r ∷ words) (if of_class then selects w Interface m (class_of cell) else Err (Stops stop_kinds.Receiver))
+interface_found w heap class r m words cell false at of = tt
+interface_found w heap class r m words None true at of = absurd (cc)
+interface_found w heap class r m words (Some (Object c fields)) true at of = selected_interface w heap class r c fields m words (result_ok (selected_by w m c)) at of refl
+interface_found w heap class r m words (Some (Array element items)) true at of = tt
+
+special_found : (w : World) (heap : Cells) (class r : ℕ) (m : MemberId) (words : List Value) (of_class : Bool) → is_of_class w class (cell_at heap r) ≡ of_class
+    → IsFound w heap class m Special (Ref r ∷ words) (if of_class then selects w Special m (class_of (cell_at heap r)) else Err (Stops stop_kinds.Receiver))
+special_found w heap class r m words false of = tt
+special_found w heap class r m words true of = rows.special of
+
+-- what a call's receiver makes of it
+receiver_found : (w : World) (heap : Cells) (class : ℕ) (m : MemberId) (call : Call) (receiver : Value) (words : List Value)
+    → IsFound w heap class m call (receiver ∷ words) (target w heap class call m (receiver ∷ words))
+receiver_found w heap class m Static receiver words = rows.static
+receiver_found w heap class m Virtual (Ref r) words = virtual_found w heap class r m words (cell_at heap r) (is_of_class w class (cell_at heap r)) refl refl
+receiver_found w heap class m Virtual Null words = refl
+receiver_found w heap class m Virtual other words = tt
+receiver_found w heap class m Interface (Ref r) words = interface_found w heap class r m words (cell_at heap r) (is_of_class w class (cell_at heap r)) refl refl
+receiver_found w heap class m Interface Null words = refl
+receiver_found w heap class m Interface other words = tt
+receiver_found w heap class m Special (Ref r) words = special_found w heap class r m words (is_of_class w class (cell_at heap r)) refl
+receiver_found w heap class m Special Null words = refl
+receiver_found w heap class m Special other words = tt
+
+found : (w : World) (heap : Cells) (class : ℕ) (m : MemberId) (call : Call) (words : List Value) → IsFound w heap class m call words (target w heap class call m words)
+found w heap class m Static [] = rows.static
+found w heap class m Virtual [] = tt
+found w heap class m Special [] = tt
+found w heap class m Interface [] = tt
+found w heap class m call (receiver ∷ words) = receiver_found w heap class m call receiver words
+
+-- the method runs, where its code holds the words
+code_row : (w : World) (s : Standing) (at : Here) (call : Call) (i : ℕ) (c : Taken w s at call i) (t : MemberId) (code : Code) (holds : Bool)
+    → rows.Dispatched w at.heap c.meant.class c.method call c.handed.words t → code_at w t ≡ Some code → has_locals code c.handed.words ≡ holds
+    → Row w s at (acts.Call call i) (if holds then Enters (waiting s at c.handed.rest) (new_frame t code c.handed.words) else stop stop_kinds.Shape at)
+code_row w s at call i c t code false dispatched has is = rows.stops
+code_row w s at call i c t code true dispatched has is =
+    rows.enters (record {
+      meant = c.meant;
+      names = c.names;
+      method = c.method;
+      links = c.links;
+      handed = c.handed;
+      takes = c.takes;
+      typed = c.typed;
+      target = t;
+      dispatches = dispatched;
+      code = code;
+      has_code = has;
+      holds = grind (arith, nat_tests, common_steps);
+      begins = grind (arith, nat_tests, common_steps);
+      waits = refl;
+      enters = refl;
+    })
+
+entered_row : (w : World) (s : Standing) (at : Here) (call : Call) (i : ℕ) (c : Taken w s at call i) (t : MemberId) (native : Bool) (code : Option Code)
+    → rows.Dispatched w at.heap c.meant.class c.method call c.handed.words t → code_at w t ≡ code
+    → Row w s at (acts.Call call i) (enter_code s at c.handed t native code)
+entered_row w s at call i c t native None dispatched has = rows.stops
+entered_row w s at call i c t native (Some code) dispatched has = code_row w s at call i c t code (has_locals code c.handed.words) dispatched has refl
+
+target_row : (w : World) (s : Standing) (at : Here) (call : Call) (i : ℕ) (c : Taken w s at call i) (found : Result MemberId Effect)
+    → IsFound w at.heap c.meant.class c.method call c.handed.words found
+    → Row w s at (acts.Call call i) (enter_target w s at c.handed found)
+target_row w s at call i c (Ok t) is = entered_row w s at call i c t (is_native (method_of w t).flags) (code_at w t) is refl
+target_row w s at call i c (Err (Stops k)) is = rows.stops
+target_row w s at call i c (Err (Throws k)) is =
+    subst (λ (k : Thrown). Row w s at (acts.Call call i) (Stays (Throws k) at)) (sym is) rows.null_receiver
+target_row w s at call i c (Err Goes) is = absurd is
+target_row w s at call i c (Err Wraps) is = absurd is
+
+words_typed_row : (w : World) (s : Standing) (at : Here) (call : Call) (i : ℕ) (meant : Meant) (method : MemberId) (handed : Handed) (typed : Bool)
+    → meant_at w s.class.pool i ≡ Some meant → linked w at.frame.method.class call meant ≡ Some method
+    → taken (receiver_words call + words_of_all (parameters_of (method_of w method).desc)) at.frame.stack ≡ Some handed
+    → are_words w at.heap call (parameters_of (method_of w method).desc) handed.words ≡ typed
+    → Row w s at (acts.Call call i)
+    (if typed then enter_target w s at handed (target w at.heap meant.class call method handed.words) else stop stop_kinds.Shape at)
+words_typed_row w s at call i meant method handed false names links takes typed = rows.stops
+words_typed_row w s at call i meant method handed true names links takes typed =
+    target_row w s at call i
+    (record { meant = meant; names = names; method = method; links = links; handed = handed; takes = takes; typed = typed })
+    (target w at.heap meant.class call method handed.words) (found w at.heap meant.class method call handed.words)
+
+handed_row : (w : World) (s : Standing) (at : Here) (call : Call) (i : ℕ) (meant : Meant) (method : MemberId) (found : Option Handed)
+    → meant_at w s.class.pool i ≡ Some meant → linked w at.frame.method.class call meant ≡ Some method
+    → taken (receiver_words call + words_of_all (parameters_of (method_of w method).desc)) at.frame.stack ≡ found
+    → Row w s at (acts.Call call i) (hand_over w s at meant.class call method found)
+handed_row w s at call i meant method None names links takes = rows.stops
+handed_row w s at call i meant method (Some handed) names links takes =
+    words_typed_row w s at call i meant method handed (are_words w at.heap call (parameters_of (method_of w method).desc) handed.words) names links takes refl
+
+linked_row : (w : World) (s : Standing) (at : Here) (call : Call) (i : ℕ) (meant : Meant) (found : Option MemberId)
+    → meant_at w s.class.pool i ≡ Some meant → linked w at.frame.method.class call meant ≡ found
+    → Row w s at (acts.Call call i) (call_linked w s at call meant.class found)
+linked_row w s at call i meant None names links = rows.stops
+linked_row w s at call i meant (Some method) names links =
+    handed_row w s at call i meant method (taken (receiver_words call + words_of_all (parameters_of (method_of w method).desc)) at.frame.stack) names links refl
+
+meant_row : (w : World) (s : Standing) (at : Here) (call : Call) (i : ℕ) (found : Option Meant) → meant_at w s.class.pool i ≡ found
+    → Row w s at (acts.Call call i) (call_meant w s at call found)
+meant_row w s at call i None names = rows.stops
+meant_row w s at call i (Some meant) names = linked_row w s at call i meant (linked w at.frame.method.class call meant) names refl
+
+call_row : (w : World) (s : Standing) (at : Here) (kind : Call) (i : ℕ) → Row w s at (acts.Call kind i) (call w s at kind i)
+unfolding call
+call_row w s at kind i = meant_row w s at kind i (meant_at w s.class.pool i) refl
+
+-- ---- all instructions
+
+acts_row : (w : World) (s : Standing) (at : Here) (action : Action) → Row w s at action (acts_on w s at action)
+acts_row w s at (acts.Call kind i) = call_row w s at kind i
+acts_row w s at (acts.New i) = new_row w s at i
+acts_row w s at (acts.Return kind) = return_row w s at kind
+acts_row w s at acts.ReturnNothing = nothing_row w s at (is_type (codes "V") (result_of s.method.desc)) refl
+acts_row w s at acts.Throw = throw_row w s at at.frame.stack refl
+acts_row w s at action = words_row w s at action
+
+standing_row : (w : World) (at : Here) (found : Option Standing) → standing_at w at.frame ≡ found → RowAt w at (outcome_on w at found)
+standing_row w at None is = rows.nowhere is
+standing_row w at (Some s) is = rows.stands s is (acts_row w s at (action_of s.instr))
+
+-- each outcome is a row
+pub outcome_is_row : (w : World) (at : Here) → RowAt w at (outcome_of w at)
+unfolding outcome_of
+outcome_is_row w at = standing_row w at (standing_at w at.frame) refl

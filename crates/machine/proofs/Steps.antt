@@ -1,66 +1,41 @@
--- A step, from what its event tells.
-use Rattle.std.proofs.Common.{◌≡◌, ℕ, ◌+◌, ◌⊎◌, inl, inr, Option, Some, None, refl, sym, ◌∙◌, ap}
-use Rattle.class_reader.specs.declared.class.ClassRecord.{ClassRecord}
-use Rattle.machine.specs.declared.state.Frame.{Frame}
-use Rattle.machine.specs.declared.state.Stop.{Stop}
-use Rattle.machine.specs.declared.state.Status.{Status}
-use Rattle.machine.specs.declared.state.Status.TheVariants as statuses
-use Rattle.machine.specs.declared.state.State.{State}
-use Rattle.machine.specs.declared.state.Event.{Event}
-use Rattle.machine.specs.declared.state.Event.TheVariants.{Went, Wrapped, Ended, Stopped}
-use Rattle.machine.specs.Step.{Outcome, Standing, instruction_cost, next_instruction, outcome_of, settle, step_from, step_of, weight_of}
-use Rattle.machine.specs.Telling.{Tells}
+-- A step is the only one, and takes back nothing.
+use Rattle.std.proofs.Common.{◌≡◌, ℕ, ◌≤◌, List, [], ◌∷◌, Option, Some, None, sym, ◌∙◌, ap, arith}
+use Rattle.world.specs.World.{World}
+use Rattle.machine.specs.declared.values.Value.{Value}
+use Rattle.machine.specs.declared.frames.Frame.{Frame}
+use Rattle.machine.specs.declared.configuration.State.{State}
+use Rattle.machine.specs.declared.configuration.Status.{Status}
+use Rattle.machine.specs.declared.configuration.Status.TheVariants as statuses
+use Rattle.machine.specs.Outcome.{Goes, Wraps, Throws, Stops, Outcome, Stays, Enters, Leaves}
+use Rattle.machine.specs.Step.{Step, outcome_of, standing_at, weight_of, resumed, return_to, leave, settle, step_from, step_of}
 
--- the configuration after an event
-abbrev pub after : Event → ℕ → State → Frame → State
-after Went weight before frame = record { frame = frame; spent = before.spent + weight; status = statuses.Running }
-after Wrapped weight before frame = record { frame = frame; spent = before.spent + weight; status = statuses.Running }
-after Ended weight before frame = record { frame = frame; spent = before.spent + weight; status = statuses.Ended }
-after (Stopped stop) weight before frame = record { frame = frame; spent = before.spent; status = statuses.Stopped stop }
+-- a configuration has at most one next
+pub step_is_unique : (w : World) (weights : ℕ → ℕ) (before one other : State) → Step w weights before one → Step w weights before other → one ≡ other
+step_is_unique w weights before one other to_one to_other = to_one.made ∙ sym to_other.made
 
-settle_told : (weight : ℕ) (before : State) (frame : Frame) (outcome : Outcome) (event : Event) → Tells event before.frame frame outcome
-    → settle weight before outcome ≡ (event, after event weight before frame)
-settle_told weight before frame outcome Went told = rw told refl
-settle_told weight before frame outcome Wrapped told = rw told refl
-settle_told weight before frame outcome Ended told = rw (told.0, told.1) refl
-settle_told weight before frame outcome (Stopped stop) told = rw (told.0, told.1) refl
+return_spends : (weight : ℕ) (before : State) (callers : List Frame) (frame : Option Frame) → before.spent ≤ (return_to weight before callers frame).1.spent
+return_spends weight before callers None = omega arith
+return_spends weight before callers (Some frame) = omega arith
 
--- where nothing stands the step stops, so its weight doesn't matter
-settle_one : (before : State) (frame : Frame) (found : Option Standing)
-    → settle (weight_of instruction_cost found) before (outcome_of frame found) ≡ settle 1 before (outcome_of frame found)
-settle_one before frame None = refl
-settle_one before frame (Some s) = refl
+leave_spends : (w : World) (weight : ℕ) (before : State) (value : Option Value) (callers : List Frame) → before.spent ≤ (leave w weight before value callers).1.spent
+leave_spends w weight before value [] = omega arith
+leave_spends w weight before value (caller ∷ callers) = return_spends weight before callers (resumed w caller value)
 
--- a running configuration's step, from what its event tells
-pub step_told : (class : ClassRecord) (before : State) (frame : Frame) (event : Event) → before.status ≡ statuses.Running
-    → Tells event before.frame frame (outcome_of before.frame (next_instruction class before.frame))
-    → step_of instruction_cost class before ≡ (event, after event 1 before frame)
+settle_spends : (w : World) (weight : ℕ) (before : State) (outcome : Outcome) → before.spent ≤ (settle w weight before outcome).1.spent
+settle_spends w weight before (Stays Goes here) = omega arith
+settle_spends w weight before (Stays Wraps here) = omega arith
+settle_spends w weight before (Stays (Throws k) here) = omega arith
+settle_spends w weight before (Stays (Stops k) here) = omega arith
+settle_spends w weight before (Enters caller callee) = omega arith
+settle_spends w weight before (Leaves value) = leave_spends w weight before value before.callers
+
+step_from_spends : (status : Status) (w : World) (weights : ℕ → ℕ) (before : State) → before.spent ≤ (step_from status w weights before).1.spent
+step_from_spends statuses.Running w weights before = settle_spends w (weight_of weights (standing_at w before.here.frame)) before (outcome_of w before.here)
+step_from_spends statuses.Ended w weights before = omega arith
+step_from_spends (statuses.Thrown k) w weights before = omega arith
+step_from_spends (statuses.Stopped k) w weights before = omega arith
+
+-- no step takes back what was spent
+pub step_spends : (w : World) (weights : ℕ → ℕ) (before now : State) → Step w weights before now → before.spent ≤ now.spent
 unfolding step_of
-step_told class before frame event runs told =
-    ap (λ (status : Status). step_from status instruction_cost class before) runs
-    ∙ settle_one before before.frame (next_instruction class before.frame)
-    ∙ settle_told 1 before frame (outcome_of before.frame (next_instruction class before.frame)) event told
-
--- a configuration that doesn't run stays
-pub step_ended : (class : ClassRecord) (before : State) → before.status ≡ statuses.Ended → step_of instruction_cost class before ≡ (Ended, before)
-unfolding step_of
-step_ended class before ended = ap (λ (status : Status). step_from status instruction_cost class before) ended
-
-pub step_stopped : (class : ClassRecord) (before : State) (stop : Stop) → before.status ≡ statuses.Stopped stop
-    → step_of instruction_cost class before ≡ (Stopped stop, before)
-unfolding step_of
-step_stopped class before stop stopped = ap (λ (status : Status). step_from status instruction_cost class before) stopped
-
-after_going : (before : State) (frame : Frame) (event : Event) → (event ≡ Went) ⊎ (event ≡ Wrapped)
-    → after event 1 before frame ≡ record { frame = frame; spent = before.spent + 1; status = statuses.Running }
-after_going before frame event (inl went) = ap (λ (e : Event). after e 1 before frame) went
-after_going before frame event (inr wrapped) = ap (λ (e : Event). after e 1 before frame) wrapped
-
--- a step that goes on leaves the status
-pub step_going : (class : ClassRecord) (before : State) (frame : Frame) (event : Event) → before.status ≡ statuses.Running
-    → Tells event before.frame frame (outcome_of before.frame (next_instruction class before.frame)) → (event ≡ Went) ⊎ (event ≡ Wrapped)
-    → step_of instruction_cost class before ≡ (event, record { frame = frame; spent = before.spent + 1; status = before.status })
-step_going class before frame event runs told goes =
-    step_told class before frame event runs told
-    ∙ ap (λ (state : State). (event, state)) (after_going before frame event goes)
-    ∙ ap (λ (status : Status). (event, record { frame = frame; spent = before.spent + 1; status = status })) (sym runs)
+step_spends w weights before now s = omega (arith, step_from_spends before.status w weights before, ap (λ (state : State). state.spent) s.made)

@@ -1,220 +1,123 @@
--- What one step makes of a configuration (JVMS 6.5).
-use Rattle.std.specs.Prelude.{◌≡◌, ◌==◌, ◌||◌, ◌&&◌, not, ℕ, ◌+◌, ◌^◌, nat_lt, nat_le, ℤ, pos, negsuc, ◌+ℤ◌, ◌-ℤ◌, ◌*ℤ◌, neg_ℤ, Bool, true, false, List, [], ◌∷◌, length, Option, Some, None, slice_get, slice_set, if◌then◌else◌}
-use Rattle.std.specs.Option.{option_and_then}
-use Rattle.std.specs.Int.{w32, int_wrap}
-use Rattle.class_reader.specs.declared.class.ClassRecord.{ClassRecord}
+-- What one step makes of a configuration (JVMS 2.11, 6.5).
+use Rattle.std.specs.Prelude.{◌≡◌, ℕ, ◌+◌, List, [], ◌∷◌, Option, Some, None, option_map, option_and_then, if◌then◌else◌}
+use Rattle.std.specs.Result.{result_ok}
 use Rattle.class_reader.specs.declared.class.Method.{Method}
 use Rattle.class_reader.specs.declared.class.Code.{Code}
-use Rattle.op_table.specs.declared.action.Action.{Action}
-use Rattle.op_table.specs.declared.action.Action.TheVariants.{Nothing, Push, Load, Store, Shuffle, Arithmetic, Negate, Increment, ReturnInt, ReturnVoid}
-use Rattle.op_table.specs.declared.action.Shuffle as moves
-use Rattle.op_table.specs.declared.action.Shuffle.TheVariants.{Pop, Duplicate, Swap}
-use Rattle.op_table.specs.declared.action.Arithmetic as operations
-use Rattle.op_table.specs.declared.action.Arithmetic.TheVariants.{Add, Subtract, Multiply}
-use Rattle.op_table.specs.declared.action.Instruction.{Instruction}
-use Rattle.op_table.specs.Instructions.{instruction_at}
-use Rattle.machine.specs.declared.state.Value.{Value}
-use Rattle.machine.specs.declared.state.Value.TheVariants.{Int, Pad}
-use Rattle.machine.specs.declared.state.Frame.{Frame}
-use Rattle.machine.specs.declared.state.Stop.{Stop}
-use Rattle.machine.specs.declared.state.Stop.TheVariants.{Shape, Support}
-use Rattle.machine.specs.declared.state.Status.{Status}
-use Rattle.machine.specs.declared.state.Status.TheVariants as statuses
-use Rattle.machine.specs.declared.state.State.{State}
-use Rattle.machine.specs.declared.state.Event.{Event}
-use Rattle.machine.specs.declared.state.Event.TheVariants as events
+use Rattle.op_table.specs.declared.acts.Action.{Action}
+use Rattle.op_table.specs.declared.acts.Action.TheVariants as acts
+use Rattle.op_table.specs.declared.instr.Instr.{Instr}
+use Rattle.op_table.specs.Actions.{action_of}
+use Rattle.op_table.specs.Grammar.{instr_at}
+use Rattle.world.specs.World.{World, class_at}
+use Rattle.machine.specs.declared.values.Value.{Value}
+use Rattle.machine.specs.declared.frames.Frame.{Frame}
+use Rattle.machine.specs.declared.configuration.Here.{Here}
+use Rattle.machine.specs.declared.configuration.State.{State}
+use Rattle.machine.specs.declared.configuration.Status.{Status}
+use Rattle.machine.specs.declared.configuration.Status.TheVariants as statuses
+use Rattle.machine.specs.declared.configuration.Event.{Event}
+use Rattle.machine.specs.declared.configuration.Event.TheVariants as events
+use Rattle.machine.specs.declared.configuration.Stop.TheVariants as stops
+use Rattle.machine.specs.Words.{pushed}
+use Rattle.machine.specs.Outcome.{Goes, Wraps, Throws, Stops, Outcome, Stays, Enters, Leaves, Standing, method_at, code_at, with_words, has_room}
+use Rattle.machine.specs.Computing.{made, words_after}
+use Rattle.machine.specs.Calling.{call, return_value, return_nothing, new_object, throw_top}
 
--- ---- what an instruction makes of locals and the operand stack
+-- ---- the instruction that comes next
 
--- locals and stack after an instruction, and whether its exact result did not fit an int
-pub record Words : Type 0 where
-  pub locals : List Value
-  pub stack : List Value
-  pub wraps : Bool
+abbrev pub standing_on : World → Frame → Method → Code → Instr → Standing
+standing_on w frame method code i = record { class = class_at w frame.method.class; method = method; code = code; instr = i }
 
-abbrev pub words : List Value → List Value → Option Words
-words locals stack = Some (record { locals = locals; stack = stack; wraps = false })
+abbrev pub standing_in : World → Frame → Method → Code → Option Standing
+standing_in w frame method code = option_map (standing_on w frame method code) (result_ok (instr_at code.bytes frame.pc))
 
--- whether a number lies in the range of an int
-abbrev pub fits_int : ℤ → Bool
-fits_int (pos n) = nat_lt n (2 ^ 31)
-fits_int (negsuc n) = nat_lt n (2 ^ 31)
+abbrev pub standing_of : World → Frame → Method → Option Standing
+standing_of w frame method = option_and_then (standing_in w frame method) method.code
 
--- what is left of a number in an int
-abbrev pub wrapped : ℤ → ℤ
-wrapped z = int_wrap w32 z
+-- the instruction at the frame's pc, if one stands there
+unfoldable pub standing_at : World → Frame → Option Standing
+standing_at w frame = option_and_then (standing_of w frame) (method_at w frame.method)
 
--- the exact result of an operation
-abbrev pub exact : operations.Arithmetic → ℤ → ℤ → ℤ
-exact Add x y = x +ℤ y
-exact Subtract x y = x -ℤ y
-exact Multiply x y = x *ℤ y
+-- ---- what it makes of what it sees
 
--- the result on the stack in the place of the operands
-abbrev pub computed : List Value → List Value → ℤ → Option Words
-computed locals stack z = Some (record { locals = locals; stack = Int (wrapped z) ∷ stack; wraps = not (fits_int z) })
+abbrev pub acts_on : World → Standing → Here → Action → Outcome
+acts_on w s here (acts.Call kind i) = call w s here kind i
+acts_on w s here (acts.New i) = new_object w s here i
+acts_on w s here (acts.Return kind) = return_value w s here kind
+acts_on w s here acts.ReturnNothing = return_nothing s here
+acts_on w s here acts.Throw = throw_top here
+acts_on w s here action = made s here (words_after s.class.pool action here.frame.locals here.frame.stack)
 
-abbrev pub int_of : Value → Option ℤ
-int_of (Int n) = Some n
-int_of Pad = None
+-- where no instruction stands the run stops
+abbrev pub outcome_on : World → Here → Option Standing → Outcome
+outcome_on w here None = Stays (Stops stops.Support) here
+outcome_on w here (Some s) = acts_on w s here (action_of s.instr)
 
--- the int in a local
-abbrev pub int_in : List Value → ℕ → Option ℤ
-int_in locals local = option_and_then int_of (slice_get locals local)
-
-abbrev pub after_store : List Value → ℕ → List Value → Option Words
-after_store locals local [] = None
-after_store locals local (Pad ∷ stack) = None
-after_store locals local (Int n ∷ stack) = if nat_lt local (length locals) then words (slice_set locals local (Int n)) stack else None
-
-abbrev pub after_shuffle : List Value → moves.Shuffle → List Value → Option Words
-after_shuffle locals s [] = None
-after_shuffle locals Pop (a ∷ stack) = words locals stack
-after_shuffle locals Duplicate (a ∷ stack) = words locals (a ∷ a ∷ stack)
-after_shuffle locals Swap (a ∷ []) = None
-after_shuffle locals Swap (a ∷ b ∷ stack) = words locals (b ∷ a ∷ stack)
-
--- the second operand lies on top
-abbrev pub after_arithmetic : List Value → operations.Arithmetic → List Value → Option Words
-after_arithmetic locals a [] = None
-after_arithmetic locals a (Pad ∷ stack) = None
-after_arithmetic locals a (Int y ∷ []) = None
-after_arithmetic locals a (Int y ∷ Pad ∷ stack) = None
-after_arithmetic locals a (Int y ∷ Int x ∷ stack) = computed locals stack (exact a x y)
-
-abbrev pub after_negate : List Value → List Value → Option Words
-after_negate locals [] = None
-after_negate locals (Pad ∷ stack) = None
-after_negate locals (Int x ∷ stack) = computed locals stack (neg_ℤ x)
-
--- the local holds the sum
-abbrev pub incremented : List Value → List Value → ℕ → ℤ → Option Words
-incremented locals stack local z = Some (record { locals = slice_set locals local (Int (wrapped z)); stack = stack; wraps = not (fits_int z) })
-
--- what an instruction that doesn't return makes of the frame's words: nothing where they don't fit it
-abbrev pub words_after : Action → List Value → List Value → Option Words
-words_after Nothing locals stack = words locals stack
-words_after (Push n) locals stack = words locals (Int n ∷ stack)
-words_after (Load local) locals stack = option_and_then (λ n. words locals (Int n ∷ stack)) (int_in locals local)
-words_after (Store local) locals stack = after_store locals local stack
-words_after (Shuffle s) locals stack = after_shuffle locals s stack
-words_after (Arithmetic a) locals stack = after_arithmetic locals a stack
-words_after Negate locals stack = after_negate locals stack
-words_after (Increment local amount) locals stack = option_and_then (λ n. incremented locals stack local (n +ℤ amount)) (int_in locals local)
-words_after ReturnInt locals stack = None
-words_after ReturnVoid locals stack = None
-
--- ---- what an instruction makes of the frame
-
--- how a step ends: the run goes on in a frame, and the exact result fitted or not; the frame returns; or
--- the run stops. A frame that returns and one that stops stand as they stood.
-pub data Outcome : Type 0 where
-  Goes : Frame → Outcome
-  Wraps : Frame → Outcome
-  Leaves : Outcome
-  Stops : Stop → Outcome
-
--- the last byte of the descriptor, behind a `)`: the result is no array and no class
-abbrev pub plain_result : List ℕ → Option ℕ
-plain_result [] = None
-plain_result (a ∷ []) = None
-plain_result (a ∷ b ∷ []) = if a == 41 then Some b else None
-plain_result (a ∷ b ∷ c ∷ desc) = plain_result (b ∷ c ∷ desc)
-
--- a boolean (Z), byte, char, short or int is returned as an int
-abbrev pub returns_int : Option ℕ → Bool
-returns_int None = false
-returns_int (Some b) = ((b == 66 || b == 67) || (b == 73 || b == 83)) || (b == 90)
-
-abbrev pub returns_nothing : Option ℕ → Bool
-returns_nothing None = false
-returns_nothing (Some b) = b == 86
-
-abbrev pub top_is_int : List Value → Bool
-top_is_int [] = false
-top_is_int (Pad ∷ stack) = false
-top_is_int (Int n ∷ stack) = true
-
-abbrev pub leaves_if : Bool → Outcome
-leaves_if true = Leaves
-leaves_if false = Stops Shape
-
-abbrev pub goes_on : Bool → Frame → Outcome
-goes_on false frame = Goes frame
-goes_on true frame = Wraps frame
-
--- words go on where the operand stack holds them and the next instruction stands in the code
-abbrev pub settled : Code → Frame → ℕ → Option Words → Outcome
-settled code frame next None = Stops Shape
-settled code frame next (Some w) =
-    if nat_le (length w.stack) code.max_stack && nat_lt next (length code.bytes)
-    then goes_on w.wraps (record { method = frame.method; pc = next; locals = w.locals; stack = w.stack })
-    else Stops Shape
-
--- what an action makes of the frame of a method, where the instruction behind it stands at next
-abbrev pub acts : Action → Method → Code → Frame → ℕ → Outcome
-acts ReturnInt method code frame next = leaves_if (returns_int (plain_result method.desc) && top_is_int frame.stack)
-acts ReturnVoid method code frame next = leaves_if (returns_nothing (plain_result method.desc))
-acts action method code frame next = settled code frame next (words_after action frame.locals frame.stack)
+unfoldable pub outcome_of : World → Here → Outcome
+outcome_of w here = outcome_on w here (standing_at w here.frame)
 
 -- ---- what a step makes of the configuration
 
--- an instruction that stands in the code of a method
-pub record Standing : Type 0 where
-  pub method : Method
-  pub code : Code
-  pub instruction : Instruction
-
-abbrev pub standing : Method → Code → Option Instruction → Option Standing
-standing method code None = None
-standing method code (Some i) = Some (record { method = method; code = code; instruction = i })
-
--- none stands in a method without code
-abbrev pub standing_on : Method → Option Code → ℕ → Option Standing
-standing_on method None pc = None
-standing_on method (Some code) pc = standing method code (instruction_at code.bytes pc)
-
-abbrev pub standing_in : Option Method → ℕ → Option Standing
-standing_in None pc = None
-standing_in (Some method) pc = standing_on method method.code pc
-
--- the instruction that the frame comes to next
-abbrev pub next_instruction : ClassRecord → Frame → Option Standing
-next_instruction class frame = standing_in (slice_get class.methods frame.method) frame.pc
-
-abbrev pub outcome_of : Frame → Option Standing → Outcome
-outcome_of frame None = Stops Support
-outcome_of frame (Some s) = acts s.instruction.action s.method s.code frame (frame.pc + s.instruction.length)
-
--- what the step adds to the cost, unless it stops
+-- what the step costs unless it stops: one opcode, also behind `wide`
 abbrev pub weight_of : (ℕ → ℕ) → Option Standing → ℕ
 weight_of weights None = 0
-weight_of weights (Some s) = weights s.instruction.opcode
+weight_of weights (Some s) = weights s.instr.op
+
+-- the operand stack with a result
+abbrev pub with_result : Option Value → List Value → List Value
+with_result None stack = stack
+with_result (Some value) stack = pushed value stack
+
+-- a frame that waited, with the result, where there is room
+abbrev pub resumed_in : Frame → List Value → Option Code → Option Frame
+resumed_in caller stack None = None
+resumed_in caller stack (Some code) = if has_room code caller.pc stack then Some (with_words caller caller.pc caller.locals stack) else None
+
+unfoldable pub resumed : World → Frame → Option Value → Option Frame
+resumed w caller value = resumed_in caller (with_result value caller.stack) (code_at w caller.method)
+
+abbrev pub running : Here → List Frame → ℕ → State
+running here callers spent = record { here = here; callers = callers; spent = spent; status = statuses.Running }
+
+-- the configuration with another status, when so much is spent
+abbrev pub over : State → ℕ → Status → State
+over before spent status = record { here = before.here; callers = before.callers; spent = spent; status = status }
+
+abbrev pub in_frame : Here → Frame → Here
+in_frame here frame = record { frame = frame; heap = here.heap; statics = here.statics }
+
+-- the frame that waited goes on
+abbrev pub return_to : ℕ → State → List Frame → Option Frame → Event × State
+return_to weight before callers None = (events.Stopped stops.Shape, over before before.spent (statuses.Stopped stops.Shape))
+return_to weight before callers (Some frame) = (events.Went, running (in_frame before.here frame) callers (before.spent + weight))
+
+-- without a frame that waits the run has ended, and the frame stands as it stood
+abbrev pub leave : World → ℕ → State → Option Value → List Frame → Event × State
+leave w weight before value [] = (events.Ended, over before (before.spent + weight) statuses.Ended)
+leave w weight before value (caller ∷ callers) = return_to weight before callers (resumed w caller value)
 
 -- a step that stops changes the status alone
-abbrev pub settle : ℕ → State → Outcome → Event × State
-settle weight before (Goes frame) = (events.Went, record { frame = frame; spent = before.spent + weight; status = statuses.Running })
-settle weight before (Wraps frame) = (events.Wrapped, record { frame = frame; spent = before.spent + weight; status = statuses.Running })
-settle weight before Leaves = (events.Ended, record { frame = before.frame; spent = before.spent + weight; status = statuses.Ended })
-settle weight before (Stops stop) = (events.Stopped stop, record { frame = before.frame; spent = before.spent; status = statuses.Stopped stop })
+abbrev pub settle : World → ℕ → State → Outcome → Event × State
+settle w weight before (Stays Goes here) = (events.Went, running here before.callers (before.spent + weight))
+settle w weight before (Stays Wraps here) = (events.Wrapped, running here before.callers (before.spent + weight))
+settle w weight before (Stays (Throws k) here) = (events.Thrown k, over before (before.spent + weight) (statuses.Thrown k))
+settle w weight before (Stays (Stops k) here) = (events.Stopped k, over before before.spent (statuses.Stopped k))
+settle w weight before (Enters caller callee) = (events.Went, running (in_frame before.here callee) (caller ∷ before.callers) (before.spent + weight))
+settle w weight before (Leaves value) = leave w weight before value before.callers
 
 -- a running configuration makes a step; another stays, and its last event is told again
-abbrev pub step_from : Status → (ℕ → ℕ) → ClassRecord → State → Event × State
-step_from statuses.Running weights class before =
-    let s = next_instruction class before.frame in
-    settle (weight_of weights s) before (outcome_of before.frame s)
-step_from statuses.Ended weights class before = (events.Ended, before)
-step_from (statuses.Stopped stop) weights class before = (events.Stopped stop, before)
+abbrev pub step_from : Status → World → (ℕ → ℕ) → State → Event × State
+step_from statuses.Running w weights before =
+    settle w (weight_of weights (standing_at w before.here.frame)) before (outcome_of w before.here)
+step_from statuses.Ended w weights before = (events.Ended, before)
+step_from (statuses.Thrown k) w weights before = (events.Thrown k, before)
+step_from (statuses.Stopped k) w weights before = (events.Stopped k, before)
 
 -- the event of a step and the configuration after it, where each opcode has its weight
-unfoldable pub step_of : (ℕ → ℕ) → ClassRecord → State → Event × State
-step_of weights class before = step_from before.status weights class before
-
--- each instruction costs 1
-abbrev pub instruction_cost : ℕ → ℕ
-instruction_cost opcode = 1
+unfoldable pub step_of : World → (ℕ → ℕ) → State → Event × State
+step_of w weights before = step_from before.status w weights before
 
 -- one step leads from a running configuration to the next
-pub record Step (weights : ℕ → ℕ) (class : ClassRecord) (before now : State) : Type 0 where
+pub record Step (w : World) (weights : ℕ → ℕ) (before now : State) : Type 0 where
   pub runs : before.status ≡ statuses.Running
-  pub made : now ≡ (step_of weights class before).1
+  pub made : now ≡ (step_of w weights before).1

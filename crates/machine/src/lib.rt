@@ -1,23 +1,44 @@
-//! The machine: configurations, and what one step makes of each.
+//! The machine with calls: configurations of a world's classes, and what one step makes of each.
 #![tactic(auto)]
 
-mod arithmetic;
-mod effect;
+mod calling;
+mod change;
+mod computing;
+mod configuration;
+mod creating;
+mod descriptors;
 mod entering;
-mod groups;
+mod entering_cells;
+mod entering_heap;
+mod entering_laws;
+mod entering_statics;
+mod entering_types;
+mod frames;
+mod going;
+mod handing;
+mod heap;
+mod ints;
 mod laws;
-mod locals;
+mod linking;
+mod longs;
+mod reading;
 mod returning;
-mod stack;
-mod state;
 mod stepping;
+mod turn;
+mod typing;
+mod values;
 
-pub use entering::enter;
-pub use laws::{at_most_one_step, steps_are_rows};
-pub use locals::Locals;
-pub use stack::Stack;
-pub use state::{Event, Frame, State, Status, Stop, Value};
-pub use stepping::step;
+pub use configuration::{Event, Here, State, Statics, Status, Stop, Thrown};
+pub use entering::{EnterFault, enter};
+pub use entering_laws::good_arguments_are_handed;
+pub use frames::{Frame, Locals, Stack};
+pub use heap::{Cell, Heap};
+pub use laws::{at_most_one_step, moments_are_nests, outcomes_are_rows};
+pub use values::Value;
 
+#[cfg(test)]
+mod entering_tests;
+#[cfg(test)]
+mod step_tests;
 #[cfg(test)]
 mod tests;

@@ -1,4 +1,4 @@
-use Rattle.machine.proofs.Rows.{step_spends}
+use Rattle.machine.proofs.Steps.{step_spends}
 use Rattle.machine.proofs.laws.at_most_one_step.Goals as goal
 
 pub returns-clause-grows : goal.returns-clause-grows

@@ -1,5 +1,0 @@
-use Rattle.call_machine.proofs.Moments.{at_moment}
-use Rattle.call_machine.proofs.laws.moments_are_nests.Goals as goal
-
-pub returns : goal.returns
-returns c = at_moment

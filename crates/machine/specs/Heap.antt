@@ -1,0 +1,117 @@
+-- Objects and arrays, and what they are instances of (JVMS 2.4, 2.5.3).
+use Rattle.std.specs.Prelude.{ℕ, suc, ◌-◌, ◌==◌, ◌&&◌, ◌||◌, not, Bool, false, pos, List, [], ◌∷◌, ◌++◌, length, take, Option, Some, None, option_and_then, slice_get, codes, map, flat_map, if◌then◌else◌}
+use Rattle.std.specs.Option.{option_map_or}
+use Rattle.std.specs.Str.{bytes_eq}
+use Rattle.class_reader.specs.declared.class.Field.{Field}
+use Rattle.class_reader.specs.Flags.{is_static}
+use Rattle.world.specs.declared.member.MemberId.{MemberId}
+use Rattle.world.specs.World.{World, class_at, number_of, line, is_below, object_name}
+use Rattle.machine.specs.declared.values.Value.{Value}
+use Rattle.machine.specs.declared.values.Value.TheVariants.{Int, Long, Pad, Null, Ref}
+use Rattle.machine.specs.declared.heap.Cell.{Cell}
+use Rattle.machine.specs.declared.heap.Cell.TheVariants.{Object, Array}
+use Rattle.machine.specs.Types.{is_type, is_int_type, is_reference_type, is_float_type}
+
+-- what stands at each number, if anything does
+abbrev pub Cells : Type 0
+Cells = List (Option Cell)
+
+-- what has this number
+abbrev pub cell_at : Cells → ℕ → Option Cell
+cell_at heap r = option_and_then (λ slot. slot) (slice_get heap r)
+
+-- the least number at which nothing stands
+abbrev pub free_number : Cells → ℕ
+free_number [] = 0
+free_number (None ∷ heap) = 0
+free_number (Some cell ∷ heap) = suc (free_number heap)
+
+-- the heap with something at that number
+abbrev pub with_cell : Cell → Cells → Cells
+with_cell cell [] = Some cell ∷ []
+with_cell cell (None ∷ heap) = Some cell ∷ heap
+with_cell cell (Some other ∷ heap) = Some other ∷ with_cell cell heap
+
+-- ---- new objects
+
+-- what a field holds before anything was stored (JVMS 2.3, 2.4)
+abbrev pub default_of : List ℕ → Value
+default_of type = if is_int_type type then Int (pos 0) else if is_type (codes "J") type then Long (pos 0) else Null
+
+-- a field of objects: it isn't static, float or double
+abbrev pub is_object_field : Field → Bool
+is_object_field field = not (is_static field.flags) && not (is_float_type field.desc)
+
+-- a class's own fields of objects from the place on, each with its type
+abbrev pub own_fields : ℕ → ℕ → List Field → List (MemberId × List ℕ)
+own_fields class place [] = []
+own_fields class place (field ∷ fields) =
+    if is_object_field field
+    then (record { class = class; member = place }, field.desc) ∷ own_fields class (suc place) fields
+    else own_fields class (suc place) fields
+
+-- the fields of an object of the class: its own and those of its superclasses (JVMS 6.5.new)
+unfoldable pub object_fields : World → ℕ → List (MemberId × List ℕ)
+object_fields w c = flat_map (λ d. own_fields d 0 (class_at w d).fields) (line w c)
+
+-- the fields of an object in which nothing was stored
+abbrev pub new_fields : World → ℕ → List (MemberId × Value)
+new_fields w c = map (λ f. (f.0, default_of f.1)) (object_fields w c)
+
+-- ---- instances
+
+-- the class with the first name is that with the second, or below it
+abbrev pub is_below_named : World → List ℕ → List ℕ → Bool
+is_below_named w name above = option_map_or (λ c. option_map_or (is_below w c) (number_of w above) false) (number_of w name) false
+
+-- the name between `L` and `;`, where the `L` is gone
+abbrev pub named_by : List ℕ → List ℕ
+named_by text = take (length text - 1) text
+
+-- the type of all references: `Ljava/lang/Object;`
+abbrev pub is_object_type : List ℕ → Bool
+is_object_type type = is_type (76 ∷ object_name ++ 59 ∷ []) type
+
+-- each value of the one type is one of the other. An array is an object, an array of an equal type, and one of a
+-- type of which its elements are (JVMS 6.5.checkcast).
+abbrev pub is_subtype : World → List ℕ → List ℕ → Bool
+is_subtype w [] type = false
+is_subtype w (a ∷ text) [] = false
+is_subtype w (a ∷ text) (b ∷ type) =
+    bytes_eq (a ∷ text) (b ∷ type)
+    || is_reference_type (a ∷ text) && is_object_type (b ∷ type)
+    || (a == 91 && b == 91) && is_subtype w text type
+    || (a == 76 && b == 76) && is_below_named w (named_by text) (named_by type)
+
+-- an object of the class is of the type
+abbrev pub is_object_of : World → ℕ → List ℕ → Bool
+is_object_of w c [] = false
+is_object_of w c (b ∷ type) = b == 76 && option_map_or (is_below w c) (number_of w (named_by type)) false
+
+-- an object or array is of the type
+abbrev pub is_instance : World → List ℕ → Option Cell → Bool
+is_instance w type None = false
+is_instance w type (Some (Object class fields)) = is_object_of w class type
+is_instance w type (Some (Array element items)) = is_subtype w (91 ∷ element) type
+
+-- a value is of the type
+unfoldable pub is_of_type : World → Cells → List ℕ → Value → Bool
+is_of_type w heap type (Int n) = is_int_type type
+is_of_type w heap type (Long n) = is_type (codes "J") type
+is_of_type w heap type Pad = false
+is_of_type w heap type Null = is_reference_type type
+is_of_type w heap type (Ref r) = is_instance w type (cell_at heap r)
+
+-- ---- receivers
+
+-- an object or array is of the class with the number; an array is of java/lang/Object alone, which has the number 0
+abbrev pub is_of_class : World → ℕ → Option Cell → Bool
+is_of_class w c None = false
+is_of_class w c (Some (Object class fields)) = is_below w class c
+is_of_class w c (Some (Array element items)) = c == 0
+
+-- the class of an object
+abbrev pub class_of : Option Cell → Option ℕ
+class_of None = None
+class_of (Some (Object class fields)) = Some class
+class_of (Some (Array element items)) = None

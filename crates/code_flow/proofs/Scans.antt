@@ -1,0 +1,43 @@
+-- What a scan of a method finds.
+use Rattle.std.proofs.Common.{◌≡◌, ℕ, zero, suc, ◌<◌, List, [], ◌∷◌, length, Option, Some, None, arith, refl, ◌∙◌}
+use Rattle.std.specs.Prelude.{slice_get, slice_index_or}
+use Rattle.class_reader.specs.declared.class.Code.{Code}
+use Rattle.world.specs.declared.member.MemberId.{MemberId}
+use Rattle.world.specs.World.{World, constructor, object_class, class_at}
+use Rattle.world.specs.Selection.{method_of}
+use Rattle.world.specs.Tables.{HasMethod}
+use Rattle.machine.specs.Outcome.{method_at, code_at}
+use Rattle.code_flow.specs.Flow.{with_code}
+use Rattle.code_flow.specs.Scanning.{sites_of, first_against, scan_in, scan_of}
+
+get_there : {A : Type 0} (xs : List A) (i : ℕ) (d : A) → i < length xs → slice_get xs i ≡ Some (slice_index_or xs i d)
+get_there [] i d lt = absurd (omega arith)
+get_there (x ∷ xs) zero d lt = refl
+get_there (x ∷ xs) (suc i) d lt = get_there xs i d (omega arith)
+
+pub method_there : (w : World) (m : MemberId) → HasMethod w m → method_at w m ≡ Some (method_of w m)
+method_there w m there =
+    let at_class : slice_get w m.class ≡ Some (class_at w m.class) = get_there w m.class object_class there.0 in
+    rw at_class (get_there (class_at w m.class).methods m.member constructor there.1)
+
+pub scan_there : (w : World) (m : MemberId) → HasMethod w m → scan_of w m ≡ scan_in w m (method_of w m) (method_of w m).code
+unfolding scan_of
+scan_there w m there = rw (method_there w m there) refl
+
+-- of a method with code, and of one without
+pub scanned : (w : World) (m : MemberId) (code : Code) → HasMethod w m → (method_of w m).code ≡ Some code → scan_of w m ≡ record { method = m; against = first_against (method_of w m) code; body = sites_of w m.class code.bytes }
+scanned w m code there e = scan_there w m there ∙ rw e refl
+
+pub none_scanned : (w : World) (m : MemberId) → HasMethod w m → (method_of w m).code ≡ None → scan_of w m ≡ record { method = m; against = None; body = record { sites = []; broken = None } }
+none_scanned w m there e = scan_there w m there ∙ rw e refl
+
+-- ---- its code
+
+coded_at : (w : World) (m : MemberId) (o : Option Code) → HasMethod w m → (method_of w m).code ≡ o → code_at w m ≡ o
+coded_at w m o there e = rw (method_there w m there) e
+
+pub coded : (w : World) (m : MemberId) (code : Code) → HasMethod w m → (method_of w m).code ≡ Some code → with_code w m ≡ Some m
+coded w m code there e = rw (coded_at w m (Some code) there e) refl
+
+pub not_coded : (w : World) (m : MemberId) → HasMethod w m → (method_of w m).code ≡ None → with_code w m ≡ None
+not_coded w m there e = rw (coded_at w m None there e) refl

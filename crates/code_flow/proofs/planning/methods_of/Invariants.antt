@@ -1,0 +1,6 @@
+use Rattle.std.proofs.Common.{◌≡◌, take, map}
+use Rattle.code_flow.specs.Scanned.{planned_by}
+use Rattle.code_flow.proofs.planning.methods_of.Given as goal
+
+abbrev pub invariant-loop-scan : goal.invariant-loop-scan
+invariant-loop-scan l = l.methods.items ≡ map planned_by (take l.scan-index l.scans)

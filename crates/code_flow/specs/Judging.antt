@@ -1,0 +1,161 @@
+-- What stands at the places of a method's code: the methods that an instruction can call, or the construct that
+-- isn't analysed.
+use Rattle.std.specs.Prelude.{ℕ, not, ◌/◌, ◌%◌, ◌==◌, ◌||◌, ◌&&◌, Bool, true, false, List, [], ◌∷◌, ◌++◌, map, Option, Some, None, is_some, Result, Ok, Err, if◌then◌else◌}
+use Rattle.class_pool.specs.declared.constant.Constant.{Constant}
+use Rattle.class_pool.specs.Pool.{class_name_at, member_at, int_at, long_at}
+use Rattle.class_reader.specs.declared.class.Method.{Method}
+use Rattle.class_reader.specs.declared.class.Code.{Code}
+use Rattle.class_reader.specs.declared.class.Handler.{Handler}
+use Rattle.op_table.specs.Actions.{action_of}
+use Rattle.op_table.specs.declared.acts.Action.{Action}
+use Rattle.op_table.specs.declared.acts.Action.TheVariants as acts
+use Rattle.op_table.specs.declared.acts.Call.{Call}
+use Rattle.op_table.specs.declared.construct.Construct.{Construct}
+use Rattle.op_table.specs.declared.construct.Construct.TheVariants as constructs
+use Rattle.world.specs.declared.member.MemberId.{MemberId}
+use Rattle.world.specs.World.{World, class_at, number_of, is_instantiable}
+use Rattle.world.specs.Instances.{is_array}
+use Rattle.machine.specs.Outcome.{method_at}
+use Rattle.code_flow.specs.Placing.{Placed, placed, broken, is_last}
+use Rattle.code_flow.specs.Linking.{called}
+
+-- ---- what is known before names are looked up
+
+-- a descriptor names float (F) or double (D), outside the names of classes (JVMS 4.3.2)
+abbrev pub names_float_in : Bool → List ℕ → Bool
+names_float_in in_name [] = false
+names_float_in true (b ∷ text) = names_float_in (not (b == 59)) text
+names_float_in false (b ∷ text) = (b == 68 || b == 70) || names_float_in (b == 76) text
+
+abbrev pub names_float : List ℕ → Bool
+names_float desc = names_float_in false desc
+
+abbrev pub construct_if : Bool → Construct → Option Construct
+construct_if true construct = Some construct
+construct_if false construct = None
+
+-- a call's member reference (JVMS 4.4.2); a class's name that is an array's begins with a bracket (JVMS 4.4.1)
+abbrev pub against_reference : Option (ℕ × List ℕ × List ℕ × List ℕ) → Option Construct
+against_reference None = Some constructs.Constant
+against_reference (Some (tag, class, name, desc)) =
+    if names_float desc then Some constructs.Float else construct_if (is_array class) constructs.ArrayMethod
+
+-- what the opcode and its operands show. What isn't built yet: jumps, and what reads or writes arrays, fields and
+-- statics or looks at the classes of objects.
+abbrev pub shown : List (Option Constant) → Action → Option Construct
+shown pool (acts.Outside construct) = Some construct
+shown pool (acts.PushConstant i) = construct_if (not (is_some (int_at pool i))) constructs.Constant
+shown pool (acts.PushLongConstant i) = construct_if (not (is_some (long_at pool i))) constructs.Constant
+shown pool (acts.Call call i) = against_reference (member_at pool i)
+shown pool (acts.New i) = construct_if (not (is_some (class_name_at pool i))) constructs.Constant
+shown pool (acts.IfZero test distance) = Some constructs.Later
+shown pool (acts.IfInts test distance) = Some constructs.Later
+shown pool (acts.IfSame same distance) = Some constructs.Later
+shown pool (acts.IfNull null distance) = Some constructs.Later
+shown pool (acts.Goto distance) = Some constructs.Later
+shown pool (acts.Switch default low count pairs) = Some constructs.Later
+shown pool (acts.LoadElement element) = Some constructs.Later
+shown pool (acts.StoreElement element) = Some constructs.Later
+shown pool (acts.GetStatic i) = Some constructs.Later
+shown pool (acts.PutStatic i) = Some constructs.Later
+shown pool (acts.GetField i) = Some constructs.Later
+shown pool (acts.PutField i) = Some constructs.Later
+shown pool (acts.NewArray kind) = Some constructs.Later
+shown pool (acts.NewReferenceArray i) = Some constructs.Later
+shown pool acts.ArrayLength = Some constructs.Later
+shown pool (acts.CheckCast i) = Some constructs.Later
+shown pool (acts.InstanceOf i) = Some constructs.Later
+shown pool action = None
+
+-- behind a return or a throw no instruction of the method comes next
+abbrev pub is_end : Action → Bool
+is_end (acts.Return kind) = true
+is_end acts.ReturnNothing = true
+is_end acts.Throw = true
+is_end action = false
+
+-- ---- what names mean
+
+abbrev pub made_of : World → List ℕ → Option ℕ → Result (List MemberId) Construct
+made_of w name None = Err constructs.MissingClass
+made_of w name (Some c) =
+    if is_array name then Err constructs.MissingClass
+    else if is_instantiable w c then Ok [] else Err constructs.Incompatible
+
+abbrev pub made_by : World → Option (List ℕ) → Result (List MemberId) Construct
+made_by w None = Err constructs.Constant
+made_by w (Some name) = made_of w name (number_of w name)
+
+abbrev pub called_by : World → ℕ → Call → Option (ℕ × List ℕ × List ℕ × List ℕ) → Result (List MemberId) Construct
+called_by w current call None = Err constructs.Constant
+called_by w current call (Some (tag, class, name, desc)) = called w current call class name desc
+
+-- the methods that an instruction of the current class can call
+abbrev pub meant : World → ℕ → List (Option Constant) → Action → Result (List MemberId) Construct
+meant w current pool (acts.Call call i) = called_by w current call (member_at pool i)
+meant w current pool (acts.New i) = made_by w (class_name_at pool i)
+meant w current pool action = Ok []
+
+-- ---- an instruction
+
+abbrev pub judged_past : Bool → Result (List MemberId) Construct → Option Construct → Result (List MemberId) Construct
+judged_past falls_off meaning (Some construct) = Err construct
+judged_past true meaning None = Err constructs.FallsOff
+judged_past false meaning None = meaning
+
+-- The methods that it can call, or the first construct at it: what it shows by itself, then that the code ends
+-- behind it although the method doesn't, then what its names mean.
+unfoldable pub judged : World → ℕ → List ℕ → Placed → Result (List MemberId) Construct
+judged w current code p =
+    judged_past
+    (is_last code p && not (is_end (action_of p.instr)))
+    (meant w current (class_at w current).pool (action_of p.instr))
+    (shown (class_at w current).pool (action_of p.instr))
+
+-- ---- a method
+
+-- ACC_SYNCHRONIZED, 0x0020 (JVMS 4.6)
+abbrev pub is_synchronized : ℕ → Bool
+is_synchronized flags = flags / 32 % 2 == 1
+
+-- what stands at a place: the methods that can be called there, or a construct
+pub record Judged : Type 0 where
+  pub pc : ℕ
+  pub verdict : Result (List MemberId) Construct
+
+abbrev pub judged_if : Bool → Construct → List Judged
+judged_if true construct = record { pc = 0; verdict = Err construct } ∷ []
+judged_if false construct = []
+
+abbrev pub has_handlers : List Handler → Bool
+has_handlers [] = false
+has_handlers (handler ∷ handlers) = true
+
+-- what stands against the method itself, at 0
+abbrev pub against_method : Method → Code → List Judged
+against_method method code =
+    judged_if (names_float method.desc) constructs.Float
+    ++ judged_if (is_synchronized method.flags) constructs.Synchronized
+    ++ judged_if (has_handlers code.handlers) constructs.Handler
+
+abbrev pub against_break : Option ℕ → List Judged
+against_break None = []
+against_break (Some pc) = record { pc = pc; verdict = Err constructs.Opcode } ∷ []
+
+abbrev pub judged_place : World → ℕ → List ℕ → Placed → Judged
+judged_place w current code p = record { pc = p.pc; verdict = judged w current code p }
+
+abbrev pub places_in : World → ℕ → Method → Option Code → List Judged
+places_in w current method None = []
+places_in w current method (Some code) =
+    against_method method code
+    ++ map (judged_place w current code.bytes) (placed code.bytes)
+    ++ against_break (broken code.bytes)
+
+abbrev pub places_at : World → ℕ → Option Method → List Judged
+places_at w current None = []
+places_at w current (Some method) = places_in w current method method.code
+
+-- what stands at the places of a method, in order
+unfoldable pub places_of : World → MemberId → List Judged
+places_of w m = places_at w m.class (method_at w m)

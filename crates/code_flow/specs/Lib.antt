@@ -1,0 +1,17 @@
+pub mod TargetList
+pub mod Placing
+pub mod Linking
+pub mod Judging
+pub mod Listing
+pub mod Flow
+pub mod Program
+pub mod Telling
+pub mod Letters
+pub mod Scanning
+pub mod ThereScanning
+pub mod Numbering
+pub mod Scanned
+pub mod Returning
+pub mod CalleeOrder
+pub mod Checking
+pub mod Faults

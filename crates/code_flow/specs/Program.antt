@@ -1,0 +1,69 @@
+-- What is known of the code that a method reaches.
+use Rattle.std.specs.Prelude.{◌≡◌, ℕ, ◌<◌, ◌≤◌, ◌⊎◌, List, length, map, Some, Ok, Contains, AllPairs, slice_get}
+use Rattle.std.specs.List.{AllByRecursion}
+use Rattle.class_pool.specs.declared.target.Target.{Target}
+use Rattle.world.specs.declared.member.MemberId.{MemberId}
+use Rattle.world.specs.World.{World}
+use Rattle.code_flow.specs.declared.program.Planned.{Planned}
+use Rattle.code_flow.specs.declared.program.Reached.{Reached}
+use Rattle.code_flow.specs.Judging.{Judged, places_of}
+use Rattle.code_flow.specs.Listing.{Leads, most_methods, reached}
+use Rattle.code_flow.specs.Flow.{method_named, planned, flow_of}
+
+-- no construct stands at the place
+abbrev pub IsFree : Judged → Type 0
+IsFree place = (ts : List MemberId) × (place.verdict ≡ Ok ts)
+
+-- a method of the program calls another one at some instruction
+pub record Calls (program : List Reached) (m t : MemberId) : Type 0 where
+  pub caller : Reached
+  pub listed : Contains program caller
+  pub is_caller : caller.method ≡ m
+  pub instruction : Planned
+  pub stands : Contains caller.instructions instruction
+  pub calls : Contains instruction.targets t
+
+-- one or more calls lead from a method to another
+pub data CallsLead (program : List Reached) : MemberId → MemberId → Type 0 where
+  once : {m t : MemberId} → Calls program m t → CallsLead program m t
+  through : {m t u : MemberId} → Calls program m t → CallsLead program t u → CallsLead program m u
+
+-- The program of the method m: it is the first, all that is called is listed, each method once and with its own
+-- instructions, nothing stands against it, and no call leads back to its method.
+pub record IsProgram (w : World) (m : MemberId) (program : List Reached) : Type 0 where
+  pub start : slice_get program 0 ≡ Some (planned w m)
+  pub once : AllPairs (λ a b. ¬ (a.method ≡ b.method)) program
+  pub own : (r : Reached) → Contains program r → r ≡ planned w r.method
+  pub free : (r : Reached) → Contains program r → AllByRecursion IsFree (places_of w r.method)
+  pub closed : (m t : MemberId) → Calls program m t → Contains (map (λ r. r.method) program) t
+  pub no_return : (m : MemberId) → ¬ CallsLead program m m
+  pub few : length program ≤ most_methods
+
+-- ---- the laws
+
+-- what is answered is a program
+abbrev pub FlowsArePrograms : Type 0
+FlowsArePrograms =
+    (w : World) (target : Target) (m : MemberId) (program : List Reached)
+    → method_named w target ≡ Some m → flow_of w target ≡ Ok program → IsProgram w m program
+
+-- where the listed methods are not more than are analysed, they are those that calls lead to
+pub record IsListing (w : World) (m : MemberId) (ms : List MemberId) : Type 0 where
+  pub begins : slice_get ms 0 ≡ Some m
+  pub sound : (t : MemberId) → Contains ms t → (t ≡ m) ⊎ Leads w m t
+  pub whole : (t : MemberId) → Leads w m t → Contains ms t
+  pub once : AllPairs (λ a b. ¬ (a ≡ b)) ms
+
+abbrev pub ListedAreReached : Type 0
+ListedAreReached = (w : World) (m : MemberId) → length (reached w m) ≤ most_methods → IsListing w m (reached w m)
+
+-- ---- an order for what is found from callees up
+
+-- all methods of the program by their numbers, each behind those that it calls
+pub record IsCalleesFirst (program : List Reached) (order : List ℕ) : Type 0 where
+  pub count : length order ≡ length program
+  pub inside : AllByRecursion (λ k. k < length program) order
+  pub all : (k : ℕ) → k < length program → Contains order k
+  pub first :
+      (i k : ℕ) (r : Reached) (t : MemberId) → slice_get order i ≡ Some k → slice_get program k ≡ Some r → Calls program r.method t
+      → (j : ℕ) × (l : ℕ) × (c : Reached) × (j < i) × (slice_get order j ≡ Some l) × (slice_get program l ≡ Some c) × (c.method ≡ t)

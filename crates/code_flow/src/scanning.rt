@@ -1,0 +1,159 @@
+//! One scan of a method's code.
+
+ghost use Rattle.std.specs.Prelude.{◌≡◌, ◌+◌, ◌<◌, ◌≤◌, length, IfOk, IsTrue, All};
+ghost use Rattle.world.specs.Selection.{method_of};
+ghost use Rattle.world.specs.Tables.{HasMethod};
+ghost use Rattle.code_flow.specs.Judging.{is_synchronized, has_handlers, judged};
+ghost use Rattle.code_flow.specs.Scanning.{site_of, sites_of, first_against, scan_of};
+ghost use Rattle.code_flow.specs.ThereScanning.{HasTargets, AreThere};
+
+use crate::judging::{judged, names_float};
+use crate::telling::LinkFault;
+use class_pool::Sequence;
+use class_reader::{Code, Handler, Method};
+use op_table::{Construct, Instr, decode, instrs_fit};
+use std::alloc::{AllocError, Global};
+use world::{MemberId, World};
+
+/// No two threads are in the method at once (JVMS 4.6).
+const ACC_SYNCHRONIZED: u16 = 0x0020;
+
+/// An instruction with the methods that it can call, or the construct that stands against it.
+#[derive(Debug, Drop)]
+pub(crate) struct Site {
+    pub pc: u32,
+    pub instr: Instr,
+    pub verdict: Result<Sequence<MemberId>, Construct>,
+}
+
+/// The instructions of a method's code in order, and the place behind them at which none stands, before the end.
+#[derive(Debug, Drop)]
+pub(crate) struct Sites {
+    pub sites: Sequence<Site>,
+    pub broken: Option<u32>,
+}
+
+/// A method, the construct that stands against all of it, and its instructions.
+#[derive(Debug, Drop)]
+pub(crate) struct Scan {
+    pub method: MemberId,
+    pub against: Option<Construct>,
+    pub body: Sites,
+}
+
+// What is known of an instruction.
+fn site_of(
+    alloc: Global,
+    w: &World,
+    current: u32,
+    code: &[u8],
+    pc: u32,
+    instr: Instr,
+) -> Result<Site, AllocError>
+    requires current { current < length w.now }
+    requires within { pc + instr.len ≤ length code.now }
+    requires small { length code.now ≤ 65535 }
+    ensures there { IfOk result (λ s. HasTargets w.now s) }
+    ensures exact { IfOk result (λ s. s ≡ site_of w.now current code.now (record { pc = pc; instr = instr })) }
+{
+    let verdict = match judged(alloc, w, current, code, pc, &instr) {
+        Ok(targets) => Ok(targets),
+        Err(LinkFault::Against(construct)) => Err(construct),
+        Err(LinkFault::Memory) => return Err(AllocError),
+    };
+    Ok(Site { pc, instr, verdict })
+}
+
+// What is known of all instructions.
+fn sites_of(alloc: Global, w: &World, current: u32, code: &[u8]) -> Result<Sites, AllocError>
+    requires current { current < length w.now }
+    requires small { length code.now ≤ 65535 }
+    ensures there { IfOk result (λ s. All (HasTargets w.now) s.sites) }
+    ensures exact { IfOk result (λ s. s ≡ sites_of w.now current code.now) }
+{
+    instrs_fit();
+    let mut sites = Sequence::new(alloc);
+    let mut pc: u32 = 0;
+    for _ in 0..code.len() {
+        if !((pc as usize) < code.len()) {
+            return Ok(Sites {
+                sites,
+                broken: None,
+            });
+        }
+        match decode(code, pc) {
+            Ok(instr) => {
+                sites.push(site_of(alloc, w, current, code, pc, instr)?)?;
+                pc += instr.len;
+            }
+            Err(_) => {
+                return Ok(Sites {
+                    sites,
+                    broken: Some(pc),
+                });
+            }
+        }
+    }
+    Ok(Sites {
+        sites,
+        broken: None,
+    })
+}
+
+fn is_synchronized(flags: u16) -> bool
+    ensures { result ≡ is_synchronized flags }
+{
+    flags / ACC_SYNCHRONIZED % 2 == 1
+}
+
+fn has_handlers(handlers: &[Handler]) -> bool
+    ensures { result ≡ has_handlers handlers.now }
+{
+    match handlers {
+        [] => false,
+        [..] => true,
+    }
+}
+
+// The first construct that stands against the method itself.
+fn first_against(method: &Method, code: &Code) -> Option<Construct>
+    ensures { result ≡ first_against method.now code.now }
+{
+    if names_float(method.desc.as_slice()) {
+        return Some(Construct::Float);
+    }
+    if is_synchronized(method.flags) {
+        return Some(Construct::Synchronized);
+    }
+    if has_handlers(code.handlers.as_slice()) {
+        return Some(Construct::Handler);
+    }
+    None
+}
+
+/// Scans the code of a method.
+#[tactic(auto, using(crate::proofs::Scans::scanned, crate::proofs::Scans::none_scanned))]
+pub(crate) fn scan_of(alloc: Global, w: &World, m: MemberId) -> Result<Scan, AllocError>
+    requires { HasMethod w.now m }
+    ensures there { IfOk result (λ s. AreThere w.now s) }
+    ensures exact { IfOk result (λ s. s ≡ scan_of w.now m) }
+{
+    match w.code_at(m) {
+        Some(code) => {
+            let body = sites_of(alloc, w, m.class, code.bytes.as_slice())?;
+            Ok(Scan {
+                method: m,
+                against: first_against(w.method_at(m), code),
+                body,
+            })
+        }
+        None => Ok(Scan {
+            method: m,
+            against: None,
+            body: Sites {
+                sites: Sequence::new(alloc),
+                broken: None,
+            },
+        }),
+    }
+}

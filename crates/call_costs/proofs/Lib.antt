@@ -1,0 +1,13 @@
+mod Members
+mod Stable
+mod Words
+mod Heaps
+mod Placing
+mod Targets
+mod Activations
+mod Standing
+mod Entering
+mod Spending
+pub mod Bounding
+mod Sums
+mod Orders

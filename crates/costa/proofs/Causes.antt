@@ -1,10 +1,21 @@
 -- From what the parts of the call leave to the causes of its answers.
-use Rattle.std.proofs.Common.{◌≡◌, ℕ, ◌<◌, ◌≤◌, Bool, true, false, List, length, Option, Some, None, Result, Ok, Err, refl, sym, ◌∙◌, ap, subst, arith}
+use Rattle.std.proofs.Common.{◌≡◌, ℕ, ◌<◌, ◌≤◌, Bool, true, false, List, [], ◌∷◌, length, Option, Some, None, Result, Ok, Err, refl, sym, ◌∙◌, ap, subst, arith}
+use Rattle.std.specs.Prelude.{if◌then◌else◌}
 use Rattle.class_pool.specs.declared.target.Target.{Target}
 use Rattle.class_reader.specs.declared.class.ClassRecord.{ClassRecord}
 use Rattle.world.specs.declared.fault.WorldFault.{WorldFault}
-use Rattle.world.specs.World.{world_of}
+use Rattle.world.specs.declared.member.MemberId.{MemberId}
+use Rattle.world.specs.World.{World, world_of}
 use Rattle.world.specs.Building.{IsWellBuilt, IsFault}
+use Rattle.code_flow.specs.declared.fault.FlowFault.{FlowFault}
+use Rattle.code_flow.specs.declared.fault.FlowFault.TheVariants as flow_faults
+use Rattle.code_flow.specs.declared.program.Reached.{Reached}
+use Rattle.code_flow.specs.Listing.{most_methods}
+use Rattle.code_flow.specs.Flow.{method_named, planned, flow_at, flow_of}
+use Rattle.code_flow.specs.Program.{IsProgram, FlowsArePrograms}
+use Rattle.code_flow.specs.Faults.{FaultsAreFounded}
+use Rattle.call_costs.specs.Costs.{cost_of, costs_of, most_cost}
+use Rattle.call_costs.specs.Standing.{CostsBoundRuns}
 use Rattle.cost_words.specs.declared.command.Command.{Command}
 use Rattle.cost_words.specs.declared.command.Command.TheVariants as commands
 use Rattle.cost_words.specs.declared.command.Cost.{Cost}
@@ -14,7 +25,7 @@ use Rattle.cost_words.specs.declared.fault.WordFault.{WordFault}
 use Rattle.cost_words.specs.declared.fault.WordFault.TheVariants.{Memory, Wrong}
 use Rattle.costa.specs.declared.fetching.File.{File}
 use Rattle.costa.specs.declared.status.FaultKind.{FaultKind}
-use Rattle.costa.specs.declared.status.LimitKind.TheVariants.{Files, Bytes}
+use Rattle.costa.specs.declared.status.LimitKind.TheVariants.{Files, Bytes, Methods, Coefficient}
 use Rattle.costa.specs.declared.status.Status.{Status}
 use Rattle.costa.specs.declared.status.Status.TheVariants as answers
 use Rattle.costa.specs.declared.words.Request.{Request}
@@ -23,13 +34,11 @@ use Rattle.ports.specs.Sink.{SinkState}
 use Rattle.costa.specs.Words.{bound_asked, asked_by, asked_of, paths_of}
 use Rattle.costa.specs.Files.{HoldBytes, HoldsAll, Tells, IsTooBig, total, most_files, most_bytes}
 use Rattle.costa.specs.Classes.{AreClasses, IsBadClass}
-use Rattle.costa.specs.Answer.{class_named, answer_in, answer_on}
+use Rattle.costa.specs.Answer.{instruction_cost, target_of, is_too_great, first_cost, bound_of, answer_by, answer_on}
 use Rattle.costa.specs.Headline.{ReadsAll, Reads, HasBound}
-use Rattle.costa.specs.Causes.{IsUsage, IsLimit, files, bytes, IsFetchFault, IsTooLong, IsNotYet, HasBadClass, HasBadWorld, HasNoMethod, no_class, undeclared, without_code, IsUnsupported}
+use Rattle.costa.specs.Causes.{IsUsage, IsLimit, files, bytes, too_many, too_great, IsFetchFault, IsTooLong, IsNotYet, HasBadClass, HasBadWorld, HasNoMethod, IsUnsupported}
 use Rattle.costa.specs.Answers.{OnClasses, world, no_world, OnFiles, read, bad, IsAnswer, usage, later, many, fault, overlong, too_big, on_files, WasPut, whole, failed, out_of_memory, Outcome, answered, gave_up, IsOutFault, IsReported, UnlessNotPut, so, not_put, no_memory, UnlessOutside, put_so, not_fetched, not_short, AsksFor}
-use Rattle.costa.proofs.Straight.{straight_costs}
-use Rattle.costa.proofs.Found.{Rests, bounds, lacks, empty, refuses, rests}
-use Rattle.costa.proofs.Worlds.{has_name, same_fault, no_fault}
+use Rattle.costa.proofs.Worlds.{same_fault, no_fault}
 use Rattle.costa.proofs.Told.{Decided, same_files, not_too_big, same_classes, no_bad_class, same_bad_class}
 
 abbrev pub Asked : Type 0
@@ -54,92 +63,118 @@ Cause asked before after answers.Memory = ⊥
 moved : (asked : Asked) (before after : ShelfState) (status wanted : Status) → status ≡ wanted → Cause asked before after wanted → Cause asked before after status
 moved asked before after status wanted is cause = subst (λ (s : Status). Cause asked before after s) (sym is) cause
 
-on_class : (asked : Asked) (before after : ShelfState) (target : Target) (class : ClassRecord) (status : Status)
-    → Reads asked before target class → Rests target class status → Cause asked before after status
-on_class asked before after target class status reads (bounds place method code count declared has none static counts is) =
-    moved asked before after status (answers.Bound count) is (record {
+-- ---- the answer on a world
+
+-- what the layers below know: what is answered of the code is a program, a program's cost bounds its runs, and what
+-- stands against a program has its ground
+pub record Known : Type 0 where
+  pub programs : FlowsArePrograms
+  pub bounded : CostsBoundRuns
+  pub founded : FaultsAreFounded
+
+method_is : (w : World) (m : MemberId) (r : Reached) → Some r ≡ Some (planned w m) → r.method ≡ m
+unfolding planned
+method_is w m r e = let same : r ≡ planned w m = cc in ap (λ (s : Reached). s.method) same
+
+-- the first of a program's methods is the one that is asked for
+first_is : (w : World) (m : MemberId) (program : List Reached) → IsProgram w m program
+    → first_cost (costs_of instruction_cost program) ≡ answers.Bound (cost_of instruction_cost program m)
+first_is w m [] is = let start = is.start in absurd cc
+first_is w m (r ∷ program) is = ap (λ (n : MemberId). answers.Bound (cost_of instruction_cost (r ∷ program) n)) (method_is w m r is.start)
+
+on_limit : (asked : Asked) (before after : ShelfState) (target : Target) (w : World) (m : MemberId) (program : List Reached) (great : Bool) (status : Status) → Known
+    → Reads asked before target w → method_named w target ≡ Some m → flow_of w target ≡ Ok program → is_too_great program ≡ great
+    → status ≡ (if great then answers.Limit Coefficient most_cost else first_cost (costs_of instruction_cost program)) → Cause asked before after status
+on_limit asked before after target w m program true status known reads named flows passes is =
+    moved asked before after status (answers.Limit Coefficient most_cost) is (too_great target w program reads flows passes refl refl)
+on_limit asked before after target w m program false status known reads named flows passes is =
+    let whole : IsProgram w m program = known.programs w target m program named flows in
+    moved asked before after status (answers.Bound (cost_of instruction_cost program m)) (is ∙ first_is w m program whole) (record {
       target = target;
-      class = class;
-      place = place;
-      method = method;
-      code = code;
+      world = w;
+      method = m;
       reads = reads;
-      declared = declared;
-      has_code = has;
-      no_handlers = none;
-      static = static;
-      bounded = straight_costs class place method code count declared.stands has counts;
-    })
-on_class asked before after target class status reads (lacks lack is) = moved asked before after status (answers.NoMethod target) is (undeclared class reads lack)
-on_class asked before after target class status reads (empty place method declared none is) =
-    moved asked before after status (answers.NoMethod target) is (without_code class place method reads declared none)
-on_class asked before after target class status reads (refuses place method code pc construct declared has against is) =
-    moved asked before after status (answers.Unsupported target pc construct) is (record {
-      class = class;
-      place = place;
-      method = method;
-      code = code;
-      reads = reads;
-      declared = declared;
-      has_code = has;
-      against = against;
+      named = named;
+      bounded = known.bounded w m program instruction_cost reads.well_built whole;
     })
 
-on_world : (asked : Asked) (before after : ShelfState) (target : Target) (classes : List ClassRecord) (status : Status) (found : Option ClassRecord)
-    → ReadsAll asked before target classes → IsWellBuilt (world_of classes) → class_named target (world_of classes) ≡ found → status ≡ answer_in target found
+on_program : (asked : Asked) (before after : ShelfState) (target : Target) (w : World) (program : List Reached) (named : Option MemberId) (status : Status) → Known
+    → Reads asked before target w → method_named w target ≡ named → flow_at w named ≡ Ok program → flow_of w target ≡ Ok program → status ≡ bound_of program
     → Cause asked before after status
-on_world asked before after target classes status None all built named is = moved asked before after status (answers.NoMethod target) is (no_class classes all built named)
-on_world asked before after target classes status (Some class) all built named is =
-    on_class asked before after target class status (record { classes = classes; all = all; well_built = built; named = named })
-    (rests target class status (has_name target (world_of classes) class named) is)
+unfolding bound_of
+on_program asked before after target w program None status known reads is_named at flows is = absurd cc
+on_program asked before after target w program (Some m) status known reads is_named at flows is =
+    on_limit asked before after target w m program (is_too_great program) status known reads is_named flows refl is
 
-on_classes : (asked : Asked) (before after : ShelfState) (target : Target) (classes : List ClassRecord) (status : Status) → ReadsAll asked before target classes
+from_name : (w : World) (target : Target) (answer : Result (List Reached) FlowFault) → flow_of w target ≡ answer → flow_at w (method_named w target) ≡ answer
+unfolding flow_of
+from_name w target answer e = e
+
+on_flow : (asked : Asked) (before after : ShelfState) (target : Target) (w : World) (status : Status) (answer : Result (List Reached) FlowFault) → Known
+    → Reads asked before target w → flow_of w target ≡ answer → status ≡ answer_by w target answer → Cause asked before after status
+on_flow asked before after target w status (Ok program) known reads flows is =
+    on_program asked before after target w program (method_named w target) status known reads refl (from_name w target (Ok program) flows) flows is
+on_flow asked before after target w status (Err flow_faults.NoMethod) known reads flows is =
+    moved asked before after status (answers.NoMethod target) is (record { world = w; reads = reads; none = known.founded w target flow_faults.NoMethod flows })
+on_flow asked before after target w status (Err (flow_faults.Unsupported m pc construct)) known reads flows is =
+    moved asked before after status (answers.Unsupported (target_of w m) pc construct) is
+    (record { target = target; world = w; number = m; reads = reads; is_method = refl; first = flows })
+on_flow asked before after target w status (Err flow_faults.TooManyMethods) known reads flows is =
+    moved asked before after status (answers.Limit Methods most_methods) is (too_many target w reads flows refl refl)
+on_flow asked before after target w status (Err flow_faults.Memory) known reads flows is = absurd (known.founded w target flow_faults.Memory flows)
+
+on_world : (asked : Asked) (before after : ShelfState) (target : Target) (w : World) (status : Status) → Known → Reads asked before target w → status ≡ answer_on target w
+    → Cause asked before after status
+unfolding answer_on
+on_world asked before after target w status known reads is = on_flow asked before after target w status (flow_of w target) known reads refl is
+
+on_classes : (asked : Asked) (before after : ShelfState) (target : Target) (classes : List ClassRecord) (status : Status) → Known → ReadsAll asked before target classes
     → OnClasses target classes status → Cause asked before after status
-on_classes asked before after target classes status all (world built is) =
-    on_world asked before after target classes status (class_named target (world_of classes)) all built refl is
-on_classes asked before after target classes status all (no_world why is_fault is) =
+on_classes asked before after target classes status known all (world built is) =
+    on_world asked before after target (world_of classes) status known (record { classes = classes; all = all; is_world = refl; well_built = built }) is
+on_classes asked before after target classes status known all (no_world why is_fault is) =
     moved asked before after status (answers.BadWorld why) is (record { target = target; classes = classes; all = all; is_fault = is_fault })
 
-on_read : (asked : Asked) (before after : ShelfState) (request : Request) (fs : List File) (status : Status) → asked ≡ Ok request
+on_read : (asked : Asked) (before after : ShelfState) (request : Request) (fs : List File) (status : Status) → Known → asked ≡ Ok request
     → HoldsAll before.files request.files fs → OnFiles request.target fs status → Cause asked before after status
-on_read asked before after request fs status a held (read classes are on) =
+on_read asked before after request fs status known a held (read classes are on) =
     let all : ReadsAll asked before request.target classes =
     record { request = request; files = fs; is_asked = a; is_target = refl; held = held; read = are } in
-    on_classes asked before after request.target classes status all on
-on_read asked before after request fs status a held (bad word offset kind is_bad is) =
+    on_classes asked before after request.target classes status known all on
+on_read asked before after request fs status known a held (bad word offset kind is_bad is) =
     moved asked before after status (answers.BadClass word offset kind) is (record { request = request; files = fs; is_asked = a; held = held; bad = is_bad })
 
-pub cause_of : (asked : Asked) (before after : ShelfState) (status : Status) → IsAnswer asked before after status → Cause asked before after status
-cause_of asked before after status (usage index a is) = moved asked before after status (answers.Usage index) is a
-cause_of asked before after status (later word a is) = moved asked before after status (answers.NotYet word) is a
-cause_of asked before after status (many request a more is) =
+pub cause_of : (asked : Asked) (before after : ShelfState) (status : Status) → Known → IsAnswer asked before after status → Cause asked before after status
+cause_of asked before after status known (usage index a is) = moved asked before after status (answers.Usage index) is a
+cause_of asked before after status known (later word a is) = moved asked before after status (answers.NotYet word) is a
+cause_of asked before after status known (many request a more is) =
     moved asked before after status (answers.Limit Files most_files) is (files request a more refl refl)
-cause_of asked before after status (fault request word a within at is) =
+cause_of asked before after status known (fault request word a within at is) =
     moved asked before after status (answers.FetchFault word) is (record { request = request; is_asked = a; failed = at })
-cause_of asked before after status (overlong request word a within at is) =
+cause_of asked before after status known (overlong request word a within at is) =
     moved asked before after status (answers.TooLong word) is (record { request = request; is_asked = a; overlong = at })
-cause_of asked before after status (too_big request a within big is) =
+cause_of asked before after status known (too_big request a within big is) =
     moved asked before after status (answers.Limit Bytes most_bytes) is (bytes request a big refl refl)
-cause_of asked before after status (on_files request fs a within held hold fits on) = on_read asked before after request fs status a held on
+cause_of asked before after status known (on_files request fs a within held hold fits on) = on_read asked before after request fs status known a held on
 
 -- ---- what the call answers
 
-put_cause : (asked : Asked) (before after : ShelfState) (status result : Status) (old new : SinkState) → IsAnswer asked before after status
+put_cause : (asked : Asked) (before after : ShelfState) (status result : Status) (old new : SinkState) → Known → IsAnswer asked before after status
     → WasPut status result old new → IsReported result → Cause asked before after result
-put_cause asked before after status result old new answer (whole same put) reported = moved asked before after result status same (cause_of asked before after status answer)
-put_cause asked before after status result old new answer (failed is rises taken) reported = absurd (reported.put is)
-put_cause asked before after status result old new answer (out_of_memory is kept) reported = absurd (reported.held is)
+put_cause asked before after status result old new known answer (whole same put) reported = moved asked before after result status same (cause_of asked before after status known answer)
+put_cause asked before after status result old new known answer (failed is rises taken) reported = absurd (reported.put is)
+put_cause asked before after status result old new known answer (out_of_memory is kept) reported = absurd (reported.held is)
 
-told_cause : (asked : Asked) (before after : ShelfState) (result : Status) (old new : SinkState) → Outcome asked before after result old new
+told_cause : (asked : Asked) (before after : ShelfState) (result : Status) (old new : SinkState) → Known → Outcome asked before after result old new
     → IsReported result → Cause asked before after result
-told_cause asked before after result old new (answered status answer put) reported = put_cause asked before after status result old new answer put reported
-told_cause asked before after result old new (gave_up is kept) reported = absurd (reported.held is)
+told_cause asked before after result old new known (answered status answer put) reported = put_cause asked before after status result old new known answer put reported
+told_cause asked before after result old new known (gave_up is kept) reported = absurd (reported.held is)
 
 -- a result that is reported has its cause
-pub has_cause : (asked : Asked) (before after : ShelfState) (result wanted : Status) (old new : SinkState) → Outcome asked before after result old new
+pub has_cause : (asked : Asked) (before after : ShelfState) (result wanted : Status) (old new : SinkState) → Known → Outcome asked before after result old new
     → result ≡ wanted → IsReported wanted → Cause asked before after wanted
-has_cause asked before after result wanted old new outcome is reported =
-    told_cause asked before after wanted old new (subst (λ (s : Status). Outcome asked before after s old new) is outcome) reported
+has_cause asked before after result wanted old new known outcome is reported =
+    told_cause asked before after wanted old new known (subst (λ (s : Status). Outcome asked before after s old new) is outcome) reported
 
 -- ---- the words
 
@@ -184,18 +219,18 @@ answer_refused (Err Memory) before after status e reported = absurd (reported re
 
 -- ---- where the sink fails
 
-put_fault : (asked : Asked) (before after : ShelfState) (status result : Status) (old new : SinkState) → IsAnswer asked before after status
+put_fault : (asked : Asked) (before after : ShelfState) (status result : Status) (old new : SinkState) → Known → IsAnswer asked before after status
     → WasPut status result old new → result ≡ answers.OutFault → IsOutFault asked before after old new
-put_fault asked before after status result old new answer (whole same put) is =
-    absurd (subst (λ (s : Status). Cause asked before after s) (sym same ∙ is) (cause_of asked before after status answer))
-put_fault asked before after status result old new answer (failed same rises taken) is =
+put_fault asked before after status result old new known answer (whole same put) is =
+    absurd (subst (λ (s : Status). Cause asked before after s) (sym same ∙ is) (cause_of asked before after status known answer))
+put_fault asked before after status result old new known answer (failed same rises taken) is =
     record { status = status; answer = answer; rises = rises; taken = taken }
-put_fault asked before after status result old new answer (out_of_memory same kept) is = absurd cc
+put_fault asked before after status result old new known answer (out_of_memory same kept) is = absurd cc
 
-pub is_out_fault : (asked : Asked) (before after : ShelfState) (result : Status) (old new : SinkState) → Outcome asked before after result old new
+pub is_out_fault : (asked : Asked) (before after : ShelfState) (result : Status) (old new : SinkState) → Known → Outcome asked before after result old new
     → result ≡ answers.OutFault → IsOutFault asked before after old new
-is_out_fault asked before after result old new (answered status answer put) is = put_fault asked before after status result old new answer put is
-is_out_fault asked before after result old new (gave_up same kept) is = absurd cc
+is_out_fault asked before after result old new known (answered status answer put) is = put_fault asked before after status result old new known answer put is
+is_out_fault asked before after result old new known (gave_up same kept) is = absurd cc
 
 -- ---- what is answered where nothing outside fails
 
@@ -342,3 +377,22 @@ pub is_unread : (asked : Asked) (before after : ShelfState) (result : Status) (o
 is_unread asked before after result old new outcome decided target fs word offset kind asks u =
     on_fit asked before after result (answers.BadClass word offset kind) old new outcome target fs asks
     (λ status hold on. bad_so target fs word offset kind status decided hold u on)
+
+-- ---- a program that is bounded
+
+same_answer : (w : World) (target : Target) (program : List Reached) → flow_of w target ≡ Ok program → is_too_great program ≡ false
+    → answer_on target w ≡ first_cost (costs_of instruction_cost program)
+unfolding answer_on bound_of
+same_answer w target program flows fit =
+    let one : bound_of program ≡ first_cost (costs_of instruction_cost program) = rw fit refl in
+    ap (answer_by w target) flows ∙ one
+
+pub is_bounded : (asked : Asked) (before after : ShelfState) (result : Status) (old new : SinkState) → Known → Outcome asked before after result old new → Decided
+    → (target : Target) (fs : List File) (classes : List ClassRecord) (m : MemberId) (program : List Reached) → AsksFor asked before target fs → AreClasses fs classes
+    → IsWellBuilt (world_of classes) → method_named (world_of classes) target ≡ Some m → flow_of (world_of classes) target ≡ Ok program
+    → is_too_great program ≡ false → UnlessOutside (answers.Bound (cost_of instruction_cost program m)) result
+is_bounded asked before after result old new known outcome decided target fs classes m program asks are built named flows fit =
+    let w = world_of classes in
+    let is : IsProgram w m program = known.programs w target m program named flows in
+    subst (λ (s : Status). UnlessOutside s result) (same_answer w target program flows fit ∙ first_is w m program is)
+    (is_answered asked before after result old new outcome decided target fs classes asks are built)

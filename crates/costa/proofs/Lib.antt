@@ -1,6 +1,3 @@
-pub mod Straight
-pub mod Found
-pub mod Counting
 pub mod FetchedFiles
 pub mod Told
 pub mod Worlds

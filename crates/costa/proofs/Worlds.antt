@@ -1,31 +1,10 @@
--- The class of a world that has a name has it, and classes that are no world have one fault.
-use Rattle.std.proofs.Common.{◌≡◌, ℕ, List, Option, Some, None, refl, sym, ◌∙◌, ap, inl, inr}
-use Rattle.std.specs.Option.{option_map}
-use Rattle.std.proofs.lemmas.List.Quantifiers.{position-Some}
-use Rattle.std.proofs.lemmas.Slice.Eq.{bytes_eq-Decides}
-use Rattle.class_pool.specs.declared.target.Target.{Target}
-use Rattle.class_reader.specs.declared.class.ClassRecord.{ClassRecord}
+-- Classes that are no world have one fault.
+use Rattle.std.proofs.Common.{◌≡◌, ℕ, List, sym, ◌∙◌, ap, inl, inr}
 use Rattle.world.specs.declared.fault.WorldFault.{WorldFault}
 use Rattle.world.specs.declared.fault.WorldFault.TheVariants.{SuperCycle}
-use Rattle.world.specs.World.{World, object_class, class_at, is_named, number_of}
+use Rattle.world.specs.World.{World, class_at}
 use Rattle.world.specs.Building.{IsWellBuilt, IsFirstCyclic, IsFault, repeats, misses, mixes, returns, inherits}
-use Rattle.costa.specs.Answer.{class_named}
 use Rattle.costa.proofs.Told.{compared}
-
-numbered : (w : World) (name : List ℕ) (c : ℕ) → number_of w name ≡ Some c → (class_at w c).name ≡ name
-unfolding number_of
-numbered w name c e = (bytes_eq-Decides (class_at w c).name name).0 (position-Some (is_named name) w c object_class e).1
-
-named_by : (target : Target) (w : World) (class : ClassRecord) (c : Option ℕ) → number_of w target.class ≡ c → option_map (class_at w) c ≡ Some class
-    → class.name ≡ target.class
-named_by target w class None e f = absurd cc
-named_by target w class (Some c) e f =
-    let same : class_at w c ≡ class = cc in
-    ap (λ (k : ClassRecord). k.name) (sym same) ∙ numbered w target.class c e
-
--- the class of the target's name has it
-pub has_name : (target : Target) (w : World) (class : ClassRecord) → class_named target w ≡ Some class → class.name ≡ target.class
-has_name target w class e = named_by target w class (number_of w target.class) refl e
 
 one_cyclic : (w : World) (a b : List ℕ) → IsFirstCyclic w a → IsFirstCyclic w b → b ≡ a
 one_cyclic w a b u v = elim (compared u.0 v.0) [

@@ -1,86 +1,48 @@
 -- The answer on a world.
-use Rattle.std.specs.Prelude.{ℕ, zero, suc, ◌+◌, ◌&&◌, nat_lt, Bool, true, false, List, [], ◌∷◌, length, Option, Some, None, find, if◌then◌else◌}
-use Rattle.std.specs.Option.{option_map}
-use Rattle.std.specs.Str.{bytes_eq}
+use Rattle.std.specs.Prelude.{ℕ, nat_lt, Bool, List, [], ◌∷◌, replicate, Result, Ok, Err, if◌then◌else◌}
+use Rattle.std.specs.List.{list_any}
 use Rattle.class_pool.specs.declared.target.Target.{Target}
-use Rattle.class_reader.specs.declared.class.ClassRecord.{ClassRecord}
-use Rattle.class_reader.specs.declared.class.Code.{Code}
-use Rattle.class_reader.specs.declared.class.Handler.{Handler}
-use Rattle.class_reader.specs.declared.class.Method.{Method}
-use Rattle.class_reader.specs.Flags.{is_static}
-use Rattle.op_table.specs.declared.construct.Construct.TheVariants.{FallsOff, Later}
-use Rattle.op_table.specs.declared.construct.Construct.TheVariants as against
-use Rattle.op_table.specs.declared.action.Instruction.{Instruction}
-use Rattle.op_table.specs.Instructions.{instruction_at, is_return}
-use Rattle.world.specs.World.{World, class_at, number_of}
+use Rattle.cost_model.specs.Costs.{cost_at}
+use Rattle.world.specs.declared.member.MemberId.{MemberId}
+use Rattle.world.specs.World.{World, class_at}
+use Rattle.world.specs.Selection.{method_of}
+use Rattle.code_flow.specs.declared.fault.FlowFault.{FlowFault}
+use Rattle.code_flow.specs.declared.fault.FlowFault.TheVariants as faults
+use Rattle.code_flow.specs.declared.program.Reached.{Reached}
+use Rattle.code_flow.specs.Listing.{most_methods}
+use Rattle.code_flow.specs.Flow.{flow_of}
+use Rattle.call_costs.specs.Costs.{costs_of, most_cost}
+use Rattle.costa.specs.declared.status.LimitKind.TheVariants.{Methods, Coefficient}
 use Rattle.costa.specs.declared.status.Status.{Status}
 use Rattle.costa.specs.declared.status.Status.TheVariants as answers
-use Rattle.costa.specs.declared.verdict.Verdict.{Verdict}
-use Rattle.costa.specs.declared.verdict.Verdict.TheVariants.{Counts, Stands}
 
-abbrev pub one_more : Verdict → Verdict
-one_more (Counts n) = Counts (suc n)
-one_more (Stands pc construct) = Stands pc construct
+-- each of the 202 opcodes costs 1
+abbrev pub instruction_cost : ℕ → ℕ
+instruction_cost op = cost_at (replicate 202 1) op
 
--- an instruction that returns is the last one, and only such a one is
-abbrev pub at_end : Bool → ℕ → ℕ → Verdict
-at_end true pc next = Counts 1
-at_end false pc next = Stands pc FallsOff
+-- the name of a method of the world
+abbrev pub target_of : World → MemberId → Target
+target_of w m = record { class = (class_at w m.class).name; method = (method_of w m).name; desc = (method_of w m).desc }
 
-abbrev pub inside : Bool → ℕ → Verdict → Verdict
-inside true next others = Stands next Later
-inside false next others = one_more others
+-- some method costs more than a bound can tell
+unfoldable pub is_too_great : List Reached → Bool
+is_too_great program = list_any (λ cost. nat_lt most_cost cost) (costs_of instruction_cost program)
 
-abbrev pub verdict_at : List ℕ → ℕ → Option Instruction → (ℕ → Verdict) → Verdict
-verdict_at code pc None others = Stands pc Later
-verdict_at code pc (Some i) others =
-    let next = pc + i.length in
-    if nat_lt next (length code) then inside (is_return i.action) next (others next) else at_end (is_return i.action) pc next
+-- the first method is the one that is asked for
+abbrev pub first_cost : List ℕ → Status
+first_cost [] = answers.Memory  -- no program is empty
+first_cost (cost ∷ costs) = answers.Bound cost
 
--- the verdict on the code from a place on, which has at most so many instructions there
-unfoldable pub verdict_from : ℕ → List ℕ → ℕ → Verdict
-verdict_from zero code pc = Stands pc Later
-verdict_from (suc most) code pc = verdict_at code pc (instruction_at code pc) (verdict_from most code)
+unfoldable pub bound_of : List Reached → Status
+bound_of program = if is_too_great program then answers.Limit Coefficient most_cost else first_cost (costs_of instruction_cost program)
 
-abbrev pub verdict_of : List ℕ → Verdict
-verdict_of code = verdict_from (length code) code 0
-
-abbrev pub is_named : Target → Method → Bool
-is_named target method = bytes_eq method.name target.method && bytes_eq method.desc target.desc
-
--- the target, where the class of its name declares it
-abbrev pub method_of : Target → ClassRecord → Option Method
-method_of target class = find (is_named target) class.methods
-
-abbrev pub answer_by : Target → Verdict → Status
-answer_by target (Counts n) = answers.Bound n
-answer_by target (Stands pc construct) = answers.Unsupported target pc construct
-
--- the answer on these instructions, behind which these handlers stand
-abbrev pub answer_past : Target → ℕ → List Handler → List ℕ → Status
-answer_past target flags (handler ∷ handlers) code = answers.Unsupported target 0 against.Handler
-answer_past target flags [] code = if is_static flags then answer_by target (verdict_of code) else answers.Unsupported target 0 Later
-
-abbrev pub answer_with : Target → ℕ → Option Code → Status
-answer_with target flags None = answers.NoMethod target
-answer_with target flags (Some code) = answer_past target flags code.handlers code.bytes
-
-abbrev pub answer_at : Target → Option Method → Status
-answer_at target None = answers.NoMethod target
-answer_at target (Some method) = answer_with target method.flags method.code
-
--- the answer on the class that has the name of the target's
-unfoldable pub answer_for : Target → ClassRecord → Status
-answer_for target class = answer_at target (method_of target class)
-
--- the class of the world that has the name of the target's
-abbrev pub class_named : Target → World → Option ClassRecord
-class_named target w = option_map (class_at w) (number_of w target.class)
-
-abbrev pub answer_in : Target → Option ClassRecord → Status
-answer_in target None = answers.NoMethod target
-answer_in target (Some class) = answer_for target class
+abbrev pub answer_by : World → Target → Result (List Reached) FlowFault → Status
+answer_by w target (Ok program) = bound_of program
+answer_by w target (Err faults.NoMethod) = answers.NoMethod target
+answer_by w target (Err (faults.Unsupported m pc construct)) = answers.Unsupported (target_of w m) pc construct
+answer_by w target (Err faults.TooManyMethods) = answers.Limit Methods most_methods
+answer_by w target (Err faults.Memory) = answers.Memory
 
 -- the answer on a world
-abbrev pub answer_on : Target → World → Status
-answer_on target w = answer_in target (class_named target w)
+unfoldable pub answer_on : Target → World → Status
+answer_on target w = answer_by w target (flow_of w target)

@@ -7,13 +7,15 @@ use Rattle.world.specs.declared.fault.WorldFault.TheVariants as faults
 use Rattle.costa.specs.declared.status.FaultKind.{FaultKind}
 use Rattle.costa.specs.declared.status.FaultKind.TheVariants as kinds
 use Rattle.costa.specs.declared.status.LimitKind.{LimitKind}
-use Rattle.costa.specs.declared.status.LimitKind.TheVariants.{Files, Bytes}
+use Rattle.costa.specs.declared.status.LimitKind.TheVariants.{Files, Bytes, Methods, Coefficient}
 use Rattle.costa.specs.declared.status.Status.{Status}
 use Rattle.costa.specs.declared.status.Status.TheVariants as answers
 
 abbrev pub limit_word : LimitKind → List ℕ
 limit_word Files = codes "files"
 limit_word Bytes = codes "bytes"
+limit_word Methods = codes "methods"
+limit_word Coefficient = codes "coefficient"
 
 abbrev pub kind_word : FaultKind → List ℕ
 kind_word kinds.Magic = codes "magic"

@@ -4,17 +4,13 @@
 mod answer;
 mod classes;
 mod fetching;
-mod laws;
 mod report;
 mod status;
 mod top;
-mod verdict;
 mod words;
 
-pub use laws::straight_code_costs_its_length;
 pub use status::{FaultKind, LimitKind, Status};
 pub use top::costa;
-pub use verdict::Verdict;
 
 #[cfg(test)]
 mod tests;

@@ -34,7 +34,7 @@ fn target_line(alloc: Global, label: &str, target: &Target) -> Result<Line, Allo
 fn unsupported_line(
     alloc: Global,
     method: &Target,
-    pc: usize,
+    pc: u32,
     construct: Construct,
 ) -> Result<Line, AllocError>
     ensures { IfOk result (λ line. line ≡ report_of (Status.Unsupported method.now pc construct)) }
@@ -43,7 +43,7 @@ fn unsupported_line(
     line.push("unsupported ")?;
     line.target(method)?;
     line.push(" ")?;
-    line.natural(pc as u128)?;
+    line.natural(u128::from(pc))?;
     line.push(" ")?;
     line.push(construct.word())?;
     line.push("\n")?;
@@ -56,6 +56,8 @@ fn limit_word(kind: LimitKind) -> &'static str
     match kind {
         LimitKind::Files => "files",
         LimitKind::Bytes => "bytes",
+        LimitKind::Methods => "methods",
+        LimitKind::Coefficient => "coefficient",
     }
 }
 

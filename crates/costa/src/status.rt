@@ -9,6 +9,10 @@ pub enum LimitKind {
     Files,
     /// The bytes of all files that were fetched: 268,435,456 at most.
     Bytes,
+    /// The methods that the target reaches: 4,096 at most.
+    Methods,
+    /// A number in the bound of the target or of a method that it reaches: 2^127 - 1 at most.
+    Coefficient,
 }
 
 /// What is wrong first with a file that is no class.
@@ -43,10 +47,11 @@ pub enum FaultKind {
 pub enum Status {
     /// The cost of the method is at most so much.
     Bound(u128),
-    /// This construct stands at this place of the method's code.
+    /// This construct stands at this place of the method's code, in bytes. It is the first of the code that the
+    /// target reaches, in breadth-first order.
     Unsupported {
         method: Target,
-        pc: usize,
+        pc: u32,
         construct: Construct,
     },
     /// More than this number are needed.

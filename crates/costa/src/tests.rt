@@ -1,3 +1,6 @@
+mod assembler;
+mod programs;
+
 use crate::report::exit_code;
 use crate::{Status, costa};
 use class_pool::{Bytes, Sequence, Text};
@@ -167,7 +170,7 @@ bound P.sub:(II)I P.class|no method P.sub:(II)I
 bound P.add:(I)I P.class|no method P.add:(I)I
 bound P.add:(IJ)Lp/Q; P.class|no method P.add:(IJ)Lp/Q;
 bound Q.add:(II)I P.class|no method Q.add:(II)I
-bound java/lang/Object.<init>:()V P.class|unsupported java/lang/Object.<init>:()V 0 later
+bound java/lang/Object.<init>:()V P.class|bound 1
 bound java/lang/Object.add:(II)I P.class|no method java/lang/Object.add:(II)I
 bound \\x50.\\x61dd:(\\x49I)I P.class|bound 4
 bound P.a\\x3A:()V P.class|no method P.a\\x3a:()V
@@ -185,26 +188,30 @@ fn words(rt: HostRuntime) -> Result<(), Fail> {
     Ok(())
 }
 
-/// Code with what is printed. That which runs straight on: iload_0, iload_1, iadd, ireturn; a return of
-/// the wrong kind, which is an instruction all the same; bipush -1, istore_2, iinc 2 by -3, iload 2, dup,
-/// swap, pop, ineg, ireturn. And code that doesn't: no return at its end; operands that pass it; an
-/// instruction behind the return, known or not; fconst_0, goto, invokestatic, wide, and no opcode.
+/// Code with what is printed. That which ends in a return: iload_0, iload_1, iadd, ireturn; a return of the
+/// wrong kind, which is an instruction all the same; bipush -1, istore_2, iinc 2 by -3, iload 2, dup, swap, pop,
+/// ineg, ireturn; wide iload 0; and an instruction behind the return, which isn't run. And code that isn't
+/// analysed: no return at its end, also behind another one; operands that pass the end; no opcode behind the return
+/// or at 0; fconst_0; goto; invokestatic of no entry and of a text; and wide before an iadd.
 const CODES: &str = "\
 1a1b60ac=bound 4
 b1=bound 1
 10ff3d8402fd1502595f5774ac=bound 9
+0357c4150000ac=bound 4
+1aac00b1=bound 2
 1a1b60=unsupported P.add:(II)I 2 falls_off
 001007=unsupported P.add:(II)I 1 falls_off
-1a10=unsupported P.add:(II)I 1 later
-1101=unsupported P.add:(II)I 0 later
-1a8400=unsupported P.add:(II)I 1 later
-1aac00=unsupported P.add:(II)I 2 later
-b1fe=unsupported P.add:(II)I 1 later
-0bac=unsupported P.add:(II)I 0 later
+1aac00=unsupported P.add:(II)I 2 falls_off
+1a10=unsupported P.add:(II)I 1 opcode
+1101=unsupported P.add:(II)I 0 opcode
+1a8400=unsupported P.add:(II)I 1 opcode
+b1fe=unsupported P.add:(II)I 1 opcode
+ff=unsupported P.add:(II)I 0 opcode
+0bac=unsupported P.add:(II)I 0 float
 00a70000=unsupported P.add:(II)I 1 later
-b80001ac=unsupported P.add:(II)I 0 later
-0357c4150000ac=unsupported P.add:(II)I 2 later
-ff=unsupported P.add:(II)I 0 later";
+b80000ac=unsupported P.add:(II)I 0 constant
+b80001ac=unsupported P.add:(II)I 0 constant
+00c460ac=unsupported P.add:(II)I 1 opcode";
 
 #[test]
 fn codes(rt: HostRuntime) -> Result<(), Fail> {
@@ -215,8 +222,7 @@ fn codes(rt: HostRuntime) -> Result<(), Fail> {
     }
     // Not static.
     let file = class_file(rt.alloc(), 1, 3, ADD)?;
-    let wanted = "unsupported P.add:(II)I 0 later";
-    expect(&rt, "bound P.add:(II)I P.class", file, wanted)?;
+    expect(&rt, "bound P.add:(II)I P.class", file, "bound 4")?;
     // Locals that don't hold the arguments: no entry is well formed, and the bound says nothing.
     let file = class_file(rt.alloc(), 9, 1, ADD)?;
     expect(&rt, "bound P.add:(II)I P.class", file, "bound 4")?;

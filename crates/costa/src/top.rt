@@ -1,4 +1,4 @@
-ghost use Rattle.std.specs.Prelude.{◌≡◌, ◌≢◌, ◌<◌, ◌≤◌, ◌^◌, ℕ, List, Ok, Err, length, false, IfOk};
+ghost use Rattle.std.specs.Prelude.{◌≡◌, ◌≢◌, ◌<◌, ◌≤◌, ◌^◌, ℕ, List, Some, Ok, Err, length, false, IfOk};
 ghost use Rattle.class_pool.specs.declared.target.Target as asked_for;
 ghost use Rattle.class_reader.specs.declared.class.ClassRecord as found;
 ghost use Rattle.op_table.specs.declared.construct.Construct as against;
@@ -6,6 +6,10 @@ ghost use Rattle.world.specs.declared.fault.WorldFault as against_world;
 ghost use Rattle.world.specs.declared.fault.WorldFault.TheVariants.{Memory};
 ghost use Rattle.world.specs.World.{world_of};
 ghost use Rattle.world.specs.Building.{IsWellBuilt, IsFault};
+ghost use Rattle.world.specs.declared.member.MemberId as members;
+ghost use Rattle.code_flow.specs.declared.program.Reached as flowing;
+ghost use Rattle.code_flow.specs.Flow.{method_named, flow_of};
+ghost use Rattle.call_costs.specs.Costs.{cost_of};
 ghost use Rattle.cost_words.specs.declared.fault.WordFault.TheVariants.{Wrong};
 ghost use Rattle.cost_words.specs.declared.fault.WordKind as kinds;
 ghost use Rattle.cost_words.specs.Reading.{words_of};
@@ -18,7 +22,7 @@ ghost use Rattle.costa.specs.declared.words.Request as requests;
 ghost use Rattle.costa.specs.Words.{request_of, paths_of};
 ghost use Rattle.costa.specs.Files.{Tells, IsTooBig, total, most_files, most_bytes};
 ghost use Rattle.costa.specs.Classes.{AreClasses, IsBadClass};
-ghost use Rattle.costa.specs.Answer.{answer_on};
+ghost use Rattle.costa.specs.Answer.{answer_on, instruction_cost, is_too_great};
 ghost use Rattle.costa.specs.Report.{report_of};
 ghost use Rattle.costa.specs.Headline.{HasBound};
 ghost use Rattle.costa.specs.Causes.{IsUsage, IsLimit, IsFetchFault, IsTooLong, IsNotYet, HasBadClass, HasBadWorld, HasNoMethod, IsUnsupported};
@@ -50,7 +54,7 @@ fn on_classes(alloc: Global, target: Target, classes: Vec<Class>) -> Result<Stat
     ensures { IfOk result (OnClasses target classes.items) }
 {
     match World::build(alloc, classes) {
-        Ok(world) => Ok(answer_on(target, &world)),
+        Ok(world) => answer_on(alloc, target, &world),
         Err(fault) => {
             if is_memory(&fault) {
                 Err(AllocError)
@@ -145,8 +149,10 @@ fn answer_and_put<F: Shelf, S: Sink>(
 /// for what isn't built; `Limit` of files where more than 1,024 are named; for each file in turn
 /// `FetchFault`, `TooLong`, and `Limit` of bytes where those so far have more than 268,435,456; `BadClass`
 /// of the first file that is no class, with its first fault; `BadWorld` where the classes are no world, with its
-/// first fault; `NoMethod`, `Unsupported` or `Bound` by the class that has the name. `OutFault` stands for any whose
-/// report was not put, and `Memory` may come in place of each.
+/// first fault; `NoMethod` where the class of the name declares no such method with code; `Unsupported` of the first
+/// construct in the code that the target reaches, or `Limit` of methods, whichever is met first; `Limit` of the
+/// coefficient where the target or a method that it reaches costs more than 2^127 - 1; and else `Bound`. `OutFault`
+/// stands for any whose report was not put, and `Memory` may come in place of each.
 pub fn costa<F: Shelf, S: Sink>(
     alloc: Global,
     words: &[String],
@@ -154,8 +160,8 @@ pub fn costa<F: Shelf, S: Sink>(
     out: &mut S,
 ) -> Status
     // Where a bound is answered, the files are classes, which form a world, its class that has the name declares
-    // the target, and in each run of the machine that enters the target with int arguments, at each unwrapped
-    // moment, at most so much is spent.
+    // the target, with code, and in each run of the machine that enters the target in a well-formed state, at each
+    // unwrapped moment, inside the methods that it calls too, at most so much is spent.
     ensures bound { (bound : ℕ) → result ≡ Status.Bound bound → HasBound (request_of (words_of words.now)) (F.meaning shelf.old) bound }
 
     // Each other answer has its cause.
@@ -191,6 +197,12 @@ pub fn costa<F: Shelf, S: Sink>(
     ensures answered { (target : asked_for.Target) (files : List fetched.File) (classes : List found.ClassRecord)
         → AsksFor (request_of (words_of words.now)) (F.meaning shelf.old) target files → AreClasses files classes → IsWellBuilt (world_of classes)
         → UnlessOutside (answer_on target (world_of classes)) result }
+
+    // So where the code that the target reaches is analysed and keeps the limits, the answer is its cost.
+    ensures bounded { (target : asked_for.Target) (files : List fetched.File) (classes : List found.ClassRecord) (m : members.MemberId) (program : List flowing.Reached)
+        → AsksFor (request_of (words_of words.now)) (F.meaning shelf.old) target files → AreClasses files classes → IsWellBuilt (world_of classes)
+        → method_named (world_of classes) target ≡ Some m → flow_of (world_of classes) target ≡ Ok program
+        → is_too_great program ≡ false → UnlessOutside (Status.Bound (cost_of instruction_cost program m)) result }
 
     // The report of an answer was put, whole.
     ensures reported { IsReported result → Appends (S.meaning out.old).content (report_of result) (S.meaning out.new).content }

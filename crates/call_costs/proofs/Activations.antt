@@ -11,7 +11,7 @@ use Rattle.op_table.specs.Grammar.{instr_at}
 use Rattle.op_table.specs.declared.construct.Construct.TheVariants as constructs
 use Rattle.op_table.specs.declared.instr.Instr.{Instr}
 use Rattle.world.specs.declared.member.MemberId.{MemberId}
-use Rattle.world.specs.World.{World}
+use Rattle.class_hierarchy.specs.World.{World}
 use Rattle.machine.specs.declared.frames.Frame.{Frame}
 use Rattle.machine.specs.declared.configuration.Here.{Here}
 use Rattle.machine.specs.Outcome.{Outcome, Standing, method_at, code_at}

@@ -9,8 +9,8 @@ use Rattle.op_table.specs.declared.instr.Instr.{Instr}
 use Rattle.op_table.specs.declared.instr.OpFault.{OpFault}
 use Rattle.op_table.proofs.Agreeing.{instr-fits}
 use Rattle.world.specs.declared.member.MemberId.{MemberId}
-use Rattle.world.specs.World.{World}
-use Rattle.world.specs.Building.{IsWellBuilt}
+use Rattle.class_hierarchy.specs.World.{World}
+use Rattle.class_hierarchy.specs.Building.{IsWellBuilt}
 use Rattle.nested_runs.specs.Spending.{IsClosed}
 use Rattle.nested_runs.proofs.Spent.{closed_where, nest_spends}
 use Rattle.machine.specs.declared.frames.Frame.{Frame}

@@ -4,8 +4,8 @@ use Rattle.std.specs.Prelude.{slice_get, option_and_then}
 use Rattle.std.proofs.lemmas.List.Elements.{All-nil, All-cons, All-append, All-weaker, Contains-get_or, recursion_from_All}
 use Rattle.class_reader.specs.declared.class.Method.{Method}
 use Rattle.world.specs.declared.member.MemberId.{MemberId}
-use Rattle.world.specs.World.{World}
-use Rattle.world.specs.Building.{IsWellBuilt}
+use Rattle.class_hierarchy.specs.World.{World}
+use Rattle.class_hierarchy.specs.Building.{IsWellBuilt}
 use Rattle.nested_runs.proofs.Kept.{nest_since, top_since}
 use Rattle.machine.specs.declared.values.Value.{Value}
 use Rattle.machine.specs.declared.values.Value.TheVariants.{Int, Long, Pad, Null, Ref}

@@ -8,8 +8,8 @@ use Rattle.op_table.specs.Actions.{action_of}
 use Rattle.op_table.specs.Grammar.{instr_at}
 use Rattle.op_table.specs.declared.instr.Instr.{Instr}
 use Rattle.world.specs.declared.member.MemberId.{MemberId}
-use Rattle.world.specs.World.{World}
-use Rattle.world.specs.Building.{IsWellBuilt}
+use Rattle.class_hierarchy.specs.World.{World}
+use Rattle.class_hierarchy.specs.Building.{IsWellBuilt}
 use Rattle.nested_runs.specs.Spending.{IsClosedWhere}
 use Rattle.machine.specs.declared.frames.Frame.{Frame}
 use Rattle.machine.specs.declared.configuration.Here.{Here}

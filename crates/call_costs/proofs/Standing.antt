@@ -11,10 +11,10 @@ use Rattle.op_table.specs.declared.acts.Action.{Action}
 use Rattle.op_table.specs.declared.acts.Action.TheVariants as acts
 use Rattle.op_table.specs.declared.acts.Call.{Call}
 use Rattle.world.specs.declared.member.MemberId.{MemberId}
-use Rattle.world.specs.World.{World, number_of}
-use Rattle.world.specs.Building.{IsWellBuilt}
+use Rattle.class_hierarchy.specs.World.{World, number_of}
+use Rattle.class_hierarchy.specs.Building.{IsWellBuilt}
 use Rattle.world.specs.Selection.{method_of}
-use Rattle.world.proofs.Cycles.{number_below}
+use Rattle.class_hierarchy.proofs.Cycles.{number_below}
 use Rattle.nested_runs.specs.Keeping.{Keeps}
 use Rattle.machine.specs.declared.values.Value.{Value}
 use Rattle.machine.specs.declared.values.Value.TheVariants.{Ref}

@@ -16,16 +16,17 @@ use Rattle.op_table.specs.declared.construct.Construct.{Construct}
 use Rattle.op_table.specs.declared.construct.Construct.TheVariants as constructs
 use Rattle.world.specs.declared.member.MemberId.{MemberId}
 use Rattle.world.specs.declared.fault.ResolveFault.{ResolveFault}
-use Rattle.world.specs.World.{World, class_at, number_of, is_below, is_instantiable}
-use Rattle.world.specs.Building.{IsWellBuilt}
+use Rattle.class_hierarchy.specs.World.{World, class_at, number_of, is_below, is_instantiable}
+use Rattle.class_hierarchy.specs.Building.{IsWellBuilt}
 use Rattle.world.specs.Resolution.{method_from, resolved_method, in_class}
 use Rattle.world.specs.Selection.{method_of, selected_by}
 use Rattle.world.specs.Tables.{HasMethod}
 use Rattle.world.specs.Targets.{is_receiver}
 use Rattle.world.specs.Collecting.{Collects}
-use Rattle.world.proofs.Cycles.{number_below}
+use Rattle.class_hierarchy.proofs.Cycles.{number_below}
 use Rattle.world.proofs.There.{method_from_there}
-use Rattle.world.proofs.Targeting.{HasNames, has_names, collects_pass, collects_target, collects_fault}
+use Rattle.class_hierarchy.proofs.OwnNames.{HasNames, has_names}
+use Rattle.world.proofs.Targeting.{collects_pass, collects_target, collects_fault}
 use Rattle.machine.specs.declared.values.Value.{Value}
 use Rattle.machine.specs.declared.values.Value.TheVariants.{Ref}
 use Rattle.machine.specs.Heap.{Cells}

@@ -11,7 +11,7 @@ use Rattle.op_table.specs.declared.acts.Width.TheVariants as widths
 use Rattle.op_table.specs.declared.acts.Shuffle.{Shuffle}
 use Rattle.op_table.specs.declared.acts.Shuffle.TheVariants.{Pop, Pop2, Dup, DupX1, DupX2, Dup2, Dup2X1, Dup2X2, Swap}
 use Rattle.world.specs.declared.member.MemberId.{MemberId}
-use Rattle.world.specs.World.{World, is_instantiable}
+use Rattle.class_hierarchy.specs.World.{World, is_instantiable}
 use Rattle.class_pool.specs.declared.constant.Constant.{Constant}
 use Rattle.machine.specs.declared.values.Value.{Value}
 use Rattle.machine.specs.declared.values.Value.TheVariants.{Int, Long, Pad, Null, Ref}

@@ -2,8 +2,8 @@
 use Rattle.std.specs.Prelude.{◌≡◌, ℕ, ◌<◌, List, length, Some, IsTrue, Contains, slice_get}
 use Rattle.std.specs.List.{AllByRecursion}
 use Rattle.world.specs.declared.member.MemberId.{MemberId}
-use Rattle.world.specs.World.{World, is_instantiable}
-use Rattle.world.specs.Building.{IsWellBuilt}
+use Rattle.class_hierarchy.specs.World.{World, is_instantiable}
+use Rattle.class_hierarchy.specs.Building.{IsWellBuilt}
 use Rattle.class_reader.specs.declared.class.Code.{Code}
 use Rattle.code_flow.specs.declared.program.Planned.{Planned}
 use Rattle.code_flow.specs.declared.program.Reached.{Reached}

@@ -10,8 +10,8 @@ use Rattle.graph_core.specs.Components.{AreTogether}
 use Rattle.graph_core.specs.Numbers.{AreComponents}
 use Rattle.graph_core.proofs.Reach.{Reaches-itself, Reaches-before}
 use Rattle.world.specs.declared.member.MemberId.{MemberId}
-use Rattle.world.specs.World.{World}
-use Rattle.world.proofs.Places.{position_hit, position_miss, position_behind}
+use Rattle.class_hierarchy.specs.World.{World}
+use Rattle.class_hierarchy.proofs.Places.{position_hit, position_miss, position_behind}
 use Rattle.code_flow.specs.Listing.{is_method, is_among, callees, most_methods, reached, Leads}
 use Rattle.code_flow.specs.Listing.Leads.{calls, through}
 use Rattle.code_flow.specs.Returning.{IsGraphTo, TellsBack}

@@ -10,7 +10,7 @@ use Rattle.graph_core.specs.Numbers.{AreComponents}
 use Rattle.op_table.specs.declared.construct.Construct.{Construct}
 use Rattle.op_table.specs.declared.construct.Construct.TheVariants.{Later}
 use Rattle.world.specs.declared.member.MemberId.{MemberId}
-use Rattle.world.specs.World.{World}
+use Rattle.class_hierarchy.specs.World.{World}
 use Rattle.code_flow.specs.declared.checking.Check.{Check}
 use Rattle.code_flow.specs.declared.checking.Check.TheVariants.{Over, Back}
 use Rattle.code_flow.specs.declared.fault.FlowFault.{FlowFault}

@@ -9,7 +9,7 @@ use Rattle.class_reader.specs.declared.class.Code.{Code}
 use Rattle.op_table.specs.declared.construct.Construct.{Construct}
 use Rattle.op_table.specs.declared.construct.Construct.TheVariants.{Later}
 use Rattle.world.specs.declared.member.MemberId.{MemberId}
-use Rattle.world.specs.World.{World}
+use Rattle.class_hierarchy.specs.World.{World}
 use Rattle.machine.specs.Outcome.{method_at}
 use Rattle.code_flow.specs.declared.fault.FlowFault.{FlowFault}
 use Rattle.code_flow.specs.declared.fault.FlowFault.TheVariants.{Unsupported, TooManyMethods}

@@ -8,7 +8,7 @@ use Rattle.class_reader.specs.declared.class.Method.{Method}
 use Rattle.op_table.specs.declared.construct.Construct.{Construct}
 use Rattle.op_table.specs.declared.construct.Construct.TheVariants.{Later}
 use Rattle.world.specs.declared.member.MemberId.{MemberId}
-use Rattle.world.specs.World.{World, class_at}
+use Rattle.class_hierarchy.specs.World.{World, class_at}
 use Rattle.world.specs.Tables.{HasMethod}
 use Rattle.machine.specs.Outcome.{method_at}
 use Rattle.code_flow.specs.declared.fault.FlowFault.{FlowFault}

@@ -6,7 +6,7 @@ use Rattle.std.proofs.lemmas.List.Elements.{Contains-append_left, Contains-push,
 use Rattle.std.proofs.lemmas.List.Quantifiers.{all_pairs_push}
 use Rattle.std.proofs.lemmas.Option.{get_or_from_slice_get, slice_get-get_or, slice_get_within}
 use Rattle.world.specs.declared.member.MemberId.{MemberId}
-use Rattle.world.specs.World.{World}
+use Rattle.class_hierarchy.specs.World.{World}
 use Rattle.code_flow.specs.Listing.{is_among, callees, with_new, listed_then, listed}
 use Rattle.code_flow.proofs.Members.{contains_cases, contains_head, contains_tail, contains_none, among_listed, listed_among}
 

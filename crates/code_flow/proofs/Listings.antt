@@ -7,7 +7,7 @@ use Rattle.std.proofs.lemmas.Option.{get_or_from_slice_get, slice_get_within}
 use Rattle.std.proofs.lemmas.List.Elements.{Contains-get_or}
 use Rattle.op_table.specs.declared.construct.Construct.{Construct}
 use Rattle.world.specs.declared.member.MemberId.{MemberId}
-use Rattle.world.specs.World.{World}
+use Rattle.class_hierarchy.specs.World.{World}
 use Rattle.world.specs.Tables.{HasMethod}
 use Rattle.code_flow.specs.declared.scanning.Site.{Site}
 use Rattle.code_flow.specs.declared.scanning.Scan.{Scan}

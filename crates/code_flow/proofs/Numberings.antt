@@ -8,7 +8,7 @@ use Rattle.std.specs.BTreeMap.{BTreeMap, is_at}
 use Rattle.std.specs.Map.{lookup}
 use Rattle.std.proofs.lemmas.Grind.{common_steps}
 use Rattle.world.specs.declared.member.MemberId.{MemberId}
-use Rattle.world.proofs.Places.{position_hit, position_miss, position_behind}
+use Rattle.class_hierarchy.proofs.Places.{position_hit, position_miss, position_behind}
 use Rattle.code_flow.specs.Listing.{is_method, is_among, with_new}
 use Rattle.code_flow.specs.Numbering.{key_cmp, place_in, HasPlaces}
 use Rattle.code_flow.proofs.Members.{is_method_same, same_is_method}

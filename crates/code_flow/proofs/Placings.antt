@@ -5,7 +5,7 @@ use Rattle.std.proofs.lemmas.Bool.{lt-ltb}
 use Rattle.op_table.specs.declared.instr.Instr.{Instr}
 use Rattle.op_table.specs.declared.instr.OpFault.{OpFault}
 use Rattle.op_table.specs.Grammar.{instr_at}
-use Rattle.world.specs.World.{World}
+use Rattle.class_hierarchy.specs.World.{World}
 use Rattle.code_flow.specs.declared.scanning.Site.{Site}
 use Rattle.code_flow.specs.Placing.{Placed, placed, placed_from, placed_then, broken, broken_from, broken_then}
 use Rattle.code_flow.specs.Scanning.{site_of, sites_of}

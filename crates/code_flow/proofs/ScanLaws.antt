@@ -7,7 +7,7 @@ use Rattle.class_reader.specs.declared.class.Method.{Method}
 use Rattle.class_reader.specs.declared.class.Code.{Code}
 use Rattle.op_table.specs.declared.construct.Construct.TheVariants as constructs
 use Rattle.world.specs.declared.member.MemberId.{MemberId}
-use Rattle.world.specs.World.{World}
+use Rattle.class_hierarchy.specs.World.{World}
 use Rattle.machine.specs.Outcome.{method_at}
 use Rattle.code_flow.specs.declared.fault.FlowFault.{FlowFault}
 use Rattle.code_flow.specs.Placing.{Placed, placed, broken}

@@ -3,7 +3,7 @@ use Rattle.std.proofs.Common.{◌≡◌, ℕ, zero, suc, ◌<◌, List, [], ◌�
 use Rattle.std.specs.Prelude.{slice_get, slice_index_or}
 use Rattle.class_reader.specs.declared.class.Code.{Code}
 use Rattle.world.specs.declared.member.MemberId.{MemberId}
-use Rattle.world.specs.World.{World, constructor, object_class, class_at}
+use Rattle.class_hierarchy.specs.World.{World, constructor, object_class, class_at}
 use Rattle.world.specs.Selection.{method_of}
 use Rattle.world.specs.Tables.{HasMethod}
 use Rattle.machine.specs.Outcome.{method_at, code_at}

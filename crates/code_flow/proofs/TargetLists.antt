@@ -9,13 +9,14 @@ use Rattle.std.specs.Ordering.{ordering_reverse}
 use Rattle.world.specs.declared.member.MemberId.{MemberId}
 use Rattle.world.specs.declared.fault.ResolveFault.{ResolveFault}
 use Rattle.world.specs.declared.fault.ResolveFault.TheVariants as resolve
-use Rattle.world.specs.World.{World, class_at}
-use Rattle.world.specs.Building.{IsWellBuilt}
+use Rattle.class_hierarchy.specs.World.{World, class_at}
+use Rattle.class_hierarchy.specs.Building.{IsWellBuilt}
 use Rattle.world.specs.Selection.{selected_by}
 use Rattle.world.specs.Tables.{HasMethod}
 use Rattle.world.specs.Targets.{is_receiver, rank, IsBefore, AreTargets, IsFirstFault, Answers}
 use Rattle.world.specs.Collecting.{IsFirstBelow, Collects}
-use Rattle.world.proofs.Targeting.{HasNames, has_names, collects_start, collects_pass, collects_target, collects_fault}
+use Rattle.class_hierarchy.proofs.OwnNames.{HasNames, has_names}
+use Rattle.world.proofs.Targeting.{collects_start, collects_pass, collects_target, collects_fault}
 use Rattle.code_flow.specs.TargetList.{Selected, with_answer, selected_below, targets_of}
 
 -- ---- what is selected class by class

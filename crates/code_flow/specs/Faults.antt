@@ -1,7 +1,7 @@
 -- What is known of what stands against a program.
 use Rattle.std.specs.Prelude.{◌≡◌, None, Err}
 use Rattle.class_pool.specs.declared.target.Target.{Target}
-use Rattle.world.specs.World.{World}
+use Rattle.class_hierarchy.specs.World.{World}
 use Rattle.world.specs.Tables.{HasMethod}
 use Rattle.code_flow.specs.declared.fault.FlowFault.{FlowFault}
 use Rattle.code_flow.specs.declared.fault.FlowFault.TheVariants.{NoMethod, Unsupported, TooManyMethods, Memory}

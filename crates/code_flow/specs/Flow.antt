@@ -7,7 +7,7 @@ use Rattle.class_reader.specs.declared.class.Code.{Code}
 use Rattle.op_table.specs.declared.construct.Construct.{Construct}
 use Rattle.op_table.specs.declared.construct.Construct.TheVariants.{Later}
 use Rattle.world.specs.declared.member.MemberId.{MemberId}
-use Rattle.world.specs.World.{World, class_at, number_of}
+use Rattle.class_hierarchy.specs.World.{World, class_at, number_of}
 use Rattle.world.specs.Resolution.{member, is_method}
 use Rattle.machine.specs.Outcome.{code_at}
 use Rattle.code_flow.specs.declared.fault.FlowFault.{FlowFault}

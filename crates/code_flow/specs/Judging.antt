@@ -13,7 +13,7 @@ use Rattle.op_table.specs.declared.acts.Call.{Call}
 use Rattle.op_table.specs.declared.construct.Construct.{Construct}
 use Rattle.op_table.specs.declared.construct.Construct.TheVariants as constructs
 use Rattle.world.specs.declared.member.MemberId.{MemberId}
-use Rattle.world.specs.World.{World, class_at, number_of, is_instantiable}
+use Rattle.class_hierarchy.specs.World.{World, class_at, number_of, is_instantiable}
 use Rattle.world.specs.Instances.{is_array}
 use Rattle.machine.specs.Outcome.{method_at}
 use Rattle.code_flow.specs.Placing.{Placed, placed, broken, is_last}

@@ -10,7 +10,7 @@ use Rattle.op_table.specs.declared.construct.Construct.TheVariants as constructs
 use Rattle.world.specs.declared.fault.ResolveFault.{ResolveFault}
 use Rattle.world.specs.declared.fault.ResolveFault.TheVariants.{MissingClass, MissingMember, Ambiguous, PackageOverride, AbstractTarget, NotInstance, Memory}
 use Rattle.world.specs.declared.member.MemberId.{MemberId}
-use Rattle.world.specs.World.{World, class_at, number_of}
+use Rattle.class_hierarchy.specs.World.{World, class_at, number_of}
 use Rattle.world.specs.Resolution.{method_from, resolved_method}
 use Rattle.world.specs.Selection.{method_of}
 use Rattle.code_flow.specs.TargetList.{targets_of}

@@ -3,7 +3,7 @@ use Rattle.std.specs.Prelude.{◌≡◌, ℕ, zero, suc, ◌==◌, ◌&&◌, Boo
 use Rattle.std.specs.List.{list_any}
 use Rattle.op_table.specs.declared.construct.Construct.{Construct}
 use Rattle.world.specs.declared.member.MemberId.{MemberId}
-use Rattle.world.specs.World.{World}
+use Rattle.class_hierarchy.specs.World.{World}
 use Rattle.code_flow.specs.Judging.{Judged, places_of}
 
 -- how many methods are analysed at most

@@ -3,7 +3,7 @@ use Rattle.std.specs.Prelude.{◌≡◌, ◌↔◌, ◌⊎◌, ℕ, ◌<◌, ◌
 use Rattle.std.specs.List.{position}
 use Rattle.graph_core.specs.Graphs.{HasEdge}
 use Rattle.world.specs.declared.member.MemberId.{MemberId}
-use Rattle.world.specs.World.{World}
+use Rattle.class_hierarchy.specs.World.{World}
 use Rattle.code_flow.specs.declared.checking.Check.{Check}
 use Rattle.code_flow.specs.declared.checking.Check.TheVariants.{Over, Back}
 use Rattle.code_flow.specs.Listing.{is_method, is_among, callees, most_methods, reached}

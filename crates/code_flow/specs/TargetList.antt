@@ -2,7 +2,7 @@
 use Rattle.std.specs.Prelude.{ℕ, zero, suc, List, [], Option, Some, None, Result, Ok, Err, length, if◌then◌else◌}
 use Rattle.world.specs.declared.member.MemberId.{MemberId}
 use Rattle.world.specs.declared.fault.ResolveFault.{ResolveFault}
-use Rattle.world.specs.World.{World}
+use Rattle.class_hierarchy.specs.World.{World}
 use Rattle.world.specs.Selection.{selected_by}
 use Rattle.world.specs.Targets.{is_receiver}
 use Rattle.world.specs.Collecting.{with_target, first_kind}

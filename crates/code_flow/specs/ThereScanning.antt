@@ -2,7 +2,7 @@
 use Rattle.std.specs.Prelude.{Result, Ok, Err, List, All}
 use Rattle.op_table.specs.declared.construct.Construct.{Construct}
 use Rattle.world.specs.declared.member.MemberId.{MemberId}
-use Rattle.world.specs.World.{World}
+use Rattle.class_hierarchy.specs.World.{World}
 use Rattle.world.specs.Tables.{HasMethod}
 use Rattle.code_flow.specs.declared.scanning.Site.{Site}
 use Rattle.code_flow.specs.declared.scanning.Scan.{Scan}

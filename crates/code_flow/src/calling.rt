@@ -1,7 +1,7 @@
 //! The graph of the calls of the methods that are listed.
 
 ghost use Rattle.std.specs.Prelude.{◌≡◌, ◌<◌, ◌≤◌, ℕ, length, map, take, flat_map, OnOk, IfOk, [], ◌∷◌};
-ghost use Rattle.world.specs.World.{World as Classes};
+ghost use Rattle.class_hierarchy.specs.World.{World as Classes};
 ghost use Rattle.code_flow.specs.Listing.{most_methods};
 ghost use Rattle.code_flow.specs.Scanning.{scan_of};
 ghost use Rattle.code_flow.specs.Scanned.{site_targets};

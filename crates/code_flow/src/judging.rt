@@ -3,7 +3,7 @@
 ghost use Rattle.std.specs.Prelude.{◌≡◌, ◌+◌, ◌<◌, ◌≤◌, length, IfOk, All, not, ◌==◌};
 ghost use Rattle.std.specs.Option.{option_map, option_copied};
 ghost use Rattle.class_pool.specs.Pool.{member_at, class_name_at};
-ghost use Rattle.world.specs.World.{class_at, number_of};
+ghost use Rattle.class_hierarchy.specs.World.{class_at, number_of};
 ghost use Rattle.world.specs.Instances.{is_array};
 ghost use Rattle.world.specs.Tables.{HasMethod};
 ghost use Rattle.code_flow.specs.Letters.{is_float_at, is_name_next};

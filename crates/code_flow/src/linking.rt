@@ -3,8 +3,7 @@
 ghost use Rattle.std.specs.Prelude.{◌≡◌, ◌<◌, ◌&&◌, not, length, map, Some, Err, IfOk, All, codes};
 ghost use Rattle.std.specs.List.{list_any};
 ghost use Rattle.class_reader.specs.Flags as flag;
-ghost use Rattle.world.specs.World.{class_at, number_of};
-ghost use Rattle.world.specs.Access as access;
+ghost use Rattle.class_hierarchy.specs.World.{class_at, number_of};
 ghost use Rattle.world.specs.Resolution.{method_from, resolved_method};
 ghost use Rattle.world.specs.Selection.{method_of};
 ghost use Rattle.world.specs.Tables.{HasMethod};
@@ -21,9 +20,6 @@ use op_table::Construct;
 use op_table::acts::Call;
 use std::alloc::Global;
 use world::{MemberId, World};
-
-/// The class is an interface (JVMS 4.1).
-const ACC_INTERFACE: u16 = 0x0200;
 
 const INCOMPATIBLE: LinkFault = LinkFault::Against(Construct::Incompatible);
 
@@ -68,14 +64,6 @@ fn fitting(w: &World, call: Call, m: MemberId) -> Result<MemberId, LinkFault>
     }
 }
 
-// Whether the class is an interface.
-fn is_interface(w: &World, class: u32) -> bool
-    requires { class < length w.now }
-    ensures { result ≡ access.is_interface (class_at w.now class).flags }
-{
-    w.record_at(class).flags / ACC_INTERFACE % 2 == 1
-}
-
 // Whether the method is a constructor (JVMS 2.9.1).
 fn is_constructor(w: &World, m: MemberId) -> bool
     requires { HasMethod w.now m }
@@ -92,7 +80,7 @@ fn is_super_call(w: &World, current: u32, class: u32, m: MemberId) -> bool
 {
     !is_constructor(w, m)
         && (w.is_below(current, class) && class != current)
-        && !is_interface(w, class)
+        && !w.is_interface(class)
 }
 
 // The method of the same name and descriptor, from the direct superclass of the current class on.

@@ -6,7 +6,7 @@ use Rattle.cost_model.specs.Costs.{cost_at}
 use Rattle.std.specs.List.{list_any}
 use Rattle.op_table.specs.declared.construct.Construct.{Construct}
 use Rattle.world.specs.declared.member.MemberId.{MemberId}
-use Rattle.world.specs.World.{World}
+use Rattle.class_hierarchy.specs.World.{World}
 use Rattle.world.specs.Tables.{HasMethod}
 use Rattle.code_flow.specs.declared.fault.FlowFault.{FlowFault}
 use Rattle.code_flow.specs.declared.fault.FlowFault.TheVariants.{Unsupported, Memory}

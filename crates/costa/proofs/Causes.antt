@@ -3,10 +3,10 @@ use Rattle.std.proofs.Common.{◌≡◌, ℕ, ◌<◌, ◌≤◌, Bool, true, fa
 use Rattle.std.specs.Prelude.{if◌then◌else◌}
 use Rattle.class_pool.specs.declared.target.Target.{Target}
 use Rattle.class_reader.specs.declared.class.ClassRecord.{ClassRecord}
-use Rattle.world.specs.declared.fault.WorldFault.{WorldFault}
+use Rattle.class_hierarchy.specs.declared.fault.WorldFault.{WorldFault}
 use Rattle.world.specs.declared.member.MemberId.{MemberId}
-use Rattle.world.specs.World.{World, world_of}
-use Rattle.world.specs.Building.{IsWellBuilt, IsFault}
+use Rattle.class_hierarchy.specs.World.{World, world_of}
+use Rattle.class_hierarchy.specs.Building.{IsWellBuilt, IsFault}
 use Rattle.code_flow.specs.declared.fault.FlowFault.{FlowFault}
 use Rattle.code_flow.specs.declared.fault.FlowFault.TheVariants as flow_faults
 use Rattle.code_flow.specs.declared.program.Reached.{Reached}

@@ -1,9 +1,9 @@
 -- Classes that are no world have one fault.
 use Rattle.std.proofs.Common.{◌≡◌, ℕ, List, sym, ◌∙◌, ap, inl, inr}
-use Rattle.world.specs.declared.fault.WorldFault.{WorldFault}
-use Rattle.world.specs.declared.fault.WorldFault.TheVariants.{SuperCycle}
-use Rattle.world.specs.World.{World, class_at}
-use Rattle.world.specs.Building.{IsWellBuilt, IsFirstCyclic, IsFault, repeats, misses, mixes, returns, inherits}
+use Rattle.class_hierarchy.specs.declared.fault.WorldFault.{WorldFault}
+use Rattle.class_hierarchy.specs.declared.fault.WorldFault.TheVariants.{SuperCycle}
+use Rattle.class_hierarchy.specs.World.{World, class_at}
+use Rattle.class_hierarchy.specs.Building.{IsWellBuilt, IsFirstCyclic, IsFault, repeats, misses, mixes, returns, inherits}
 use Rattle.costa.proofs.Told.{compared}
 
 one_cyclic : (w : World) (a b : List ℕ) → IsFirstCyclic w a → IsFirstCyclic w b → b ≡ a

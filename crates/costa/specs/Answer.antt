@@ -4,7 +4,7 @@ use Rattle.std.specs.List.{list_any}
 use Rattle.class_pool.specs.declared.target.Target.{Target}
 use Rattle.cost_model.specs.Costs.{cost_at}
 use Rattle.world.specs.declared.member.MemberId.{MemberId}
-use Rattle.world.specs.World.{World, class_at}
+use Rattle.class_hierarchy.specs.World.{World, class_at}
 use Rattle.world.specs.Selection.{method_of}
 use Rattle.code_flow.specs.declared.fault.FlowFault.{FlowFault}
 use Rattle.code_flow.specs.declared.fault.FlowFault.TheVariants as faults

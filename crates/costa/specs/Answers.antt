@@ -2,9 +2,9 @@
 use Rattle.std.specs.Prelude.{◌≡◌, ◌<◌, ◌≤◌, ℕ, List, length, Result, Ok, Err}
 use Rattle.class_pool.specs.declared.target.Target.{Target}
 use Rattle.class_reader.specs.declared.class.ClassRecord.{ClassRecord}
-use Rattle.world.specs.declared.fault.WorldFault.{WorldFault}
-use Rattle.world.specs.World.{world_of}
-use Rattle.world.specs.Building.{IsWellBuilt, IsFault}
+use Rattle.class_hierarchy.specs.declared.fault.WorldFault.{WorldFault}
+use Rattle.class_hierarchy.specs.World.{world_of}
+use Rattle.class_hierarchy.specs.Building.{IsWellBuilt, IsFault}
 use Rattle.ports.specs.Shelf.{ShelfState, Rises}
 use Rattle.ports.specs.Sink.{SinkState, AppendsPrefix, Appends}
 use Rattle.costa.specs.declared.fetching.File.{File}

@@ -3,10 +3,10 @@ use Rattle.std.specs.Prelude.{◌≡◌, ◌<◌, ℕ, true, List, length, None,
 use Rattle.class_pool.specs.declared.target.Target.{Target}
 use Rattle.class_reader.specs.declared.class.ClassRecord.{ClassRecord}
 use Rattle.op_table.specs.declared.construct.Construct.{Construct}
-use Rattle.world.specs.declared.fault.WorldFault.{WorldFault}
+use Rattle.class_hierarchy.specs.declared.fault.WorldFault.{WorldFault}
 use Rattle.world.specs.declared.member.MemberId.{MemberId}
-use Rattle.world.specs.World.{World, world_of}
-use Rattle.world.specs.Building.{IsFault}
+use Rattle.class_hierarchy.specs.World.{World, world_of}
+use Rattle.class_hierarchy.specs.Building.{IsFault}
 use Rattle.code_flow.specs.declared.fault.FlowFault.TheVariants as flows
 use Rattle.code_flow.specs.declared.program.Reached.{Reached}
 use Rattle.code_flow.specs.Listing.{most_methods}

@@ -3,8 +3,8 @@ use Rattle.std.specs.Prelude.{◌≡◌, ℕ, List, Some, Result, Ok}
 use Rattle.class_pool.specs.declared.target.Target.{Target}
 use Rattle.class_reader.specs.declared.class.ClassRecord.{ClassRecord}
 use Rattle.world.specs.declared.member.MemberId.{MemberId}
-use Rattle.world.specs.World.{World, world_of}
-use Rattle.world.specs.Building.{IsWellBuilt}
+use Rattle.class_hierarchy.specs.World.{World, world_of}
+use Rattle.class_hierarchy.specs.Building.{IsWellBuilt}
 use Rattle.machine.specs.Run.{CostsAtMost}
 use Rattle.code_flow.specs.Flow.{method_named}
 use Rattle.ports.specs.Shelf.{ShelfState}

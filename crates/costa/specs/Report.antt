@@ -2,8 +2,8 @@
 use Rattle.std.specs.Prelude.{ℕ, List, [], ◌∷◌, ◌++◌, codes, decimal}
 use Rattle.op_table.specs.Construct.{word_of}
 use Rattle.text_out.specs.Names.{plain_name, target_text}
-use Rattle.world.specs.declared.fault.WorldFault.{WorldFault}
-use Rattle.world.specs.declared.fault.WorldFault.TheVariants as faults
+use Rattle.class_hierarchy.specs.declared.fault.WorldFault.{WorldFault}
+use Rattle.class_hierarchy.specs.declared.fault.WorldFault.TheVariants as faults
 use Rattle.costa.specs.declared.status.FaultKind.{FaultKind}
 use Rattle.costa.specs.declared.status.FaultKind.TheVariants as kinds
 use Rattle.costa.specs.declared.status.LimitKind.{LimitKind}

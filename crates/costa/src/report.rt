@@ -3,11 +3,11 @@ ghost use Rattle.text_out.specs.Names.{target_text};
 ghost use Rattle.costa.specs.Report.{limit_word, kind_word, name_line, names_line, fault_text, report_of, code_of};
 
 use crate::{FaultKind, LimitKind, Status};
+use class_hierarchy::WorldFault;
 use class_pool::{Target, Text};
 use op_table::Construct;
 use std::alloc::{AllocError, Global};
 use text_out::Line;
-use world::WorldFault;
 
 // A line of a label and a number.
 fn number_line(alloc: Global, label: &str, number: u128) -> Result<Line, AllocError>

@@ -1,6 +1,6 @@
+use class_hierarchy::WorldFault;
 use class_pool::Target;
 use op_table::Construct;
-use world::WorldFault;
 
 /// What a limit counts.
 #[derive(Clone, Copy, Debug, PartialEq, Eq)]

@@ -2,10 +2,10 @@ ghost use Rattle.std.specs.Prelude.{◌≡◌, ◌≢◌, ◌<◌, ◌≤◌, �
 ghost use Rattle.class_pool.specs.declared.target.Target as asked_for;
 ghost use Rattle.class_reader.specs.declared.class.ClassRecord as found;
 ghost use Rattle.op_table.specs.declared.construct.Construct as against;
-ghost use Rattle.world.specs.declared.fault.WorldFault as against_world;
-ghost use Rattle.world.specs.declared.fault.WorldFault.TheVariants.{Memory};
-ghost use Rattle.world.specs.World.{world_of};
-ghost use Rattle.world.specs.Building.{IsWellBuilt, IsFault};
+ghost use Rattle.class_hierarchy.specs.declared.fault.WorldFault as against_world;
+ghost use Rattle.class_hierarchy.specs.declared.fault.WorldFault.TheVariants.{Memory};
+ghost use Rattle.class_hierarchy.specs.World.{world_of};
+ghost use Rattle.class_hierarchy.specs.Building.{IsWellBuilt, IsFault};
 ghost use Rattle.world.specs.declared.member.MemberId as members;
 ghost use Rattle.code_flow.specs.declared.program.Reached as flowing;
 ghost use Rattle.code_flow.specs.Flow.{method_named, flow_of};
@@ -34,11 +34,12 @@ use crate::fetching::{File, MOST_BYTES, Stop, fetch_all};
 use crate::report::report;
 use crate::words::{Request, request_of};
 use crate::{LimitKind, Status};
+use class_hierarchy::WorldFault;
 use class_pool::Target;
 use class_reader::Class;
 use ports::{Put, Shelf, Sink};
 use std::alloc::{AllocError, Global};
-use world::{World, WorldFault};
+use world::World;
 
 /// How many files are named at most.
 const MOST_FILES: usize = 1_024;

@@ -1,7 +1,7 @@
 -- What a call takes from the operand stack.
 use Rattle.std.proofs.Common.{◌≡◌, ℕ, Bool, true, false, List, [], ◌∷◌, Option, Some, None, refl}
 use Rattle.std.specs.Prelude.{◌&&◌, if◌then◌else◌}
-use Rattle.world.specs.World.{World}
+use Rattle.class_hierarchy.specs.World.{World}
 use Rattle.machine.specs.declared.values.Value.{Value}
 use Rattle.machine.specs.Words.{Popped}
 use Rattle.machine.specs.Heap.{Cells, is_of_type}

@@ -1,6 +1,6 @@
 -- The tests of objects and arrays tell what they are to tell.
-use Rattle.std.proofs.Common.{◌≡◌, ◌≢◌, ◌↔◌, ℕ, zero, suc, ◌≤◌, ◌<◌, ◌+◌, List, [], ◌∷◌, ◌++◌, Bool, true, false, Option, Some, None, length, drop, refl, sym, ◌∙◌, arith, IsTrue, ap, subst, ◌⊎◌, inl, inr}
-use Rattle.std.specs.Prelude.{◌||◌, ◌&&◌, ◌==◌, not, nat_eq, nat_lt, nat_le, slice_index_or, slice_get, Contains, All, AllPairs, flat_map, Any, ℤ, if◌then◌else◌}
+use Rattle.std.proofs.Common.{◌≡◌, ◌≢◌, ◌↔◌, ℕ, zero, suc, ◌<◌, ◌+◌, List, [], ◌∷◌, Bool, true, false, Option, Some, None, length, drop, refl, sym, ◌∙◌, arith, IsTrue, ap, subst, ◌⊎◌, inl, inr}
+use Rattle.std.specs.Prelude.{◌||◌, ◌&&◌, not, nat_eq, nat_lt, nat_le, slice_index_or, slice_get, Contains, AllPairs, flat_map, Any, ℤ, if◌then◌else◌}
 use Rattle.std.specs.List.{list_all, list_any, AllByRecursion}
 use Rattle.std.specs.Option.{option_map_or}
 use Rattle.std.specs.Cmp.{signed_Decides}
@@ -13,7 +13,7 @@ use Rattle.op_table.specs.declared.acts.Width.TheVariants as widths
 use Rattle.class_reader.specs.declared.class.Field.{Field}
 use Rattle.class_reader.specs.Descriptor.{IsFieldDescriptor}
 use Rattle.world.specs.declared.member.MemberId.{MemberId}
-use Rattle.world.specs.World.{World, line, class_at, is_instantiable}
+use Rattle.class_hierarchy.specs.World.{World, line, class_at, is_instantiable}
 use Rattle.world.specs.Resolution.{member}
 use Rattle.machine.specs.declared.values.Value.{Value}
 use Rattle.machine.specs.declared.values.Value.TheVariants.{Int, Long, Pad, Null, Ref}
@@ -21,7 +21,7 @@ use Rattle.machine.specs.Calling.{narrowed_to}
 use Rattle.machine.specs.Numbers.{fits}
 use Rattle.machine.specs.Heap.{Cells, own_fields, is_object_field, is_of_type, object_fields}
 use Rattle.machine.specs.Entry.{IsObject, IsArray, IsInRange, Agrees}
-use Rattle.machine.specs.EnteringCells.{agrees, own_holds, is_object, is_in_range, left_in, is_member, has_own, has_each, has_value, is_known, are_known, are_distinct, are_items}
+use Rattle.machine.specs.EnteringCells.{agrees, own_holds, is_object, is_in_range, left_in, is_member, has_each, has_value, is_known, are_known, are_distinct, are_items}
 
 -- ---- tests of two
 

@@ -1,5 +1,5 @@
 -- Good arguments, one after another, and the entry with them.
-use Rattle.std.proofs.Common.{◌≡◌, ◌≢◌, ◌↔◌, ◌⊎◌, inl, inr, ℕ, zero, suc, ◌≤◌, ◌<◌, ◌+◌, List, [], ◌∷◌, ◌++◌, Bool, true, false, Option, Some, None, length, take, refl, sym, ◌∙◌, arith, IsTrue, ap, subst, length-append, add-one}
+use Rattle.std.proofs.Common.{◌≡◌, inl, inr, ℕ, zero, suc, ◌≤◌, ◌<◌, ◌+◌, List, [], ◌∷◌, ◌++◌, Bool, true, false, Option, Some, None, length, take, refl, sym, arith, ap, subst, length-append}
 use Rattle.std.specs.Prelude.{slice_index_or, slice_get, nat_lt, map, if◌then◌else◌, ◌||◌, ℤ, pos, codes, ◌==◌}
 use Rattle.std.specs.List.{AllByRecursion}
 use Rattle.std.proofs.lemmas.Bool.{cases_lt, cases_eq, ltb-true, lt-ltb}
@@ -10,17 +10,17 @@ use Rattle.class_reader.specs.declared.class.Code.{Code}
 use Rattle.op_table.specs.declared.acts.Small.TheVariants.{Byte, Char, Short}
 use Rattle.std.specs.Int.{int_rem_euclid}
 use Rattle.world.specs.declared.member.MemberId.{MemberId}
-use Rattle.world.specs.World.{World, class_at}
+use Rattle.class_hierarchy.specs.World.{World, class_at}
 use Rattle.machine.specs.declared.values.Value.{Value}
-use Rattle.machine.specs.declared.values.Value.TheVariants.{Int, Long, Pad, Null, Ref}
+use Rattle.machine.specs.declared.values.Value.TheVariants.{Int, Long, Null}
 use Rattle.machine.specs.declared.configuration.State.{State}
 use Rattle.machine.specs.Numbers.{narrowed}
 use Rattle.machine.specs.Types.{is_int_type, is_type}
 use Rattle.machine.specs.Heap.{Cells, default_of, is_of_type}
 use Rattle.machine.specs.Outcome.{method_at}
 use Rattle.machine.specs.Calling.{narrowed_int, narrowed_to}
-use Rattle.machine.specs.Entry.{Agrees, AllAgree, AreHanded, AreStatics, IsEntry, IsInRange, argument_types, entry_of, is_number_type, is_static_number, own_statics, statics_from, statics_of, words_of_value, words_of_values}
-use Rattle.machine.specs.Entering.{AllGood, IsFirstBad, IsFirstIn, IsGoodArgument, IsNoNullReceiver, IsPlace, IsSound, zeros}
+use Rattle.machine.specs.Entry.{Agrees, AllAgree, AreHanded, AreStatics, IsEntry, argument_types, entry_of, is_number_type, is_static_number, own_statics, statics_from, statics_of, words_of_value, words_of_values}
+use Rattle.machine.specs.Entering.{AllGood, IsFirstBad, IsFirstIn, IsGoodArgument, IsNoNullReceiver, IsSound, zeros}
 use Rattle.class_reader.specs.Flags.{is_static}
 use Rattle.machine.proofs.EnteringCells.{both_true}
 use Rattle.machine.proofs.EnteringLaw.{get_inside, one_there, good_handed}

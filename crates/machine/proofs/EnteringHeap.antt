@@ -1,5 +1,5 @@
 -- The graph of a heap leads where its references lead.
-use Rattle.std.proofs.Common.{◌≡◌, ◌≢◌, ◌↔◌, ◌⊎◌, inl, inr, ℕ, zero, suc, ◌≤◌, ◌<◌, ◌+◌, List, [], ◌∷◌, ◌++◌, Bool, true, false, Option, Some, None, length, take, refl, sym, ◌∙◌, arith, IsTrue, ap, subst, add-one}
+use Rattle.std.proofs.Common.{◌≡◌, ◌↔◌, ◌⊎◌, inl, inr, ℕ, zero, suc, ◌≤◌, ◌<◌, ◌+◌, List, [], ◌∷◌, ◌++◌, Option, Some, None, length, take, refl, sym, ◌∙◌, arith, ap, subst, add-one}
 use Rattle.std.specs.Prelude.{slice_index_or, Contains, map}
 use Rattle.std.proofs.lemmas.List.Elements.{Contains-append_left, Contains-append_right, Contains-append_cases}
 use Rattle.graph_core.specs.Graphs.{HasEdge}
@@ -9,7 +9,7 @@ use Rattle.machine.specs.EnteringHeap.{AddsTo, IsGraphBelow, IsGraph, IsMark, Ar
 use Rattle.machine.specs.declared.entering_heap.Mark.{Mark}
 use Rattle.machine.specs.Heap.{Cells, cell_at}
 use Rattle.machine.specs.Entry.{values_in}
-use Rattle.world.specs.World.{World}
+use Rattle.class_hierarchy.specs.World.{World}
 use Rattle.world.specs.declared.member.MemberId.{MemberId}
 use Rattle.std.proofs.lemmas.List.{map-append}
 use Rattle.std.proofs.lemmas.Bool.{cases_eq}

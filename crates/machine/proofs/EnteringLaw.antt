@@ -1,17 +1,16 @@
 -- A method can be entered exactly with good arguments.
-use Rattle.std.proofs.Common.{◌≡◌, ◌≢◌, ◌↔◌, ◌⊎◌, inl, inr, ℕ, zero, suc, ◌≤◌, ◌<◌, ◌+◌, List, [], ◌∷◌, ◌++◌, Bool, true, false, Option, Some, None, length, take, refl, sym, ◌∙◌, arith, IsTrue, ap, subst, length-append}
-use Rattle.std.specs.Prelude.{slice_index_or, slice_get, Contains, flat_map}
+use Rattle.std.proofs.Common.{◌≡◌, inl, inr, ℕ, zero, suc, ◌≤◌, ◌<◌, List, [], ◌∷◌, Option, Some, length, take, refl, sym, ◌∙◌, arith, ap, subst, length-append}
+use Rattle.std.specs.Prelude.{slice_get, Contains}
 use Rattle.std.proofs.lemmas.Bool.{cases_lt}
 use Rattle.class_reader.specs.declared.class.Method.{Method}
 use Rattle.class_reader.specs.declared.class.Code.{Code}
-use Rattle.class_reader.specs.Flags.{is_static}
 use Rattle.world.specs.declared.member.MemberId.{MemberId}
-use Rattle.world.specs.World.{World, class_at}
+use Rattle.class_hierarchy.specs.World.{World, class_at}
 use Rattle.machine.specs.declared.values.Value.{Value}
 use Rattle.machine.specs.declared.values.Value.TheVariants.{Int, Long, Pad, Null, Ref}
 use Rattle.machine.specs.Heap.{Cells, cell_at}
 use Rattle.machine.specs.Entry.{Agrees, AllAgree, AllHaveLength, AreHanded, HasLength, IsHeld, Reaches, argument_types, words_of_value, words_of_values}
-use Rattle.machine.specs.Entering.{AllGood, GoodArgumentsAreHanded, IsGoodArgument, IsHeldFrom, IsPlace, IsSound}
+use Rattle.machine.specs.Entering.{AllGood, GoodArgumentsAreHanded, IsGoodArgument, IsHeldFrom, IsSound}
 
 -- ---- places of lists
 

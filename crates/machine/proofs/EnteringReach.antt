@@ -1,6 +1,6 @@
 -- What a number of the heap reaches is what its node in the graph reaches.
-use Rattle.std.proofs.Common.{◌≡◌, ◌≢◌, ◌↔◌, ◌⊎◌, inl, inr, ℕ, zero, suc, ◌≤◌, ◌<◌, ◌+◌, List, [], ◌∷◌, Bool, true, false, Option, Some, None, length, refl, sym, ◌∙◌, arith, IsTrue, ap, subst}
-use Rattle.std.specs.Prelude.{slice_index_or, slice_get, Contains, AllPairs, map, not, ◌&&◌}
+use Rattle.std.proofs.Common.{◌≡◌, ◌≢◌, ◌↔◌, inl, inr, ℕ, zero, suc, ◌<◌, List, [], ◌∷◌, Bool, true, false, Option, Some, None, length, refl, sym, ◌∙◌, arith, IsTrue, ap, subst}
+use Rattle.std.specs.Prelude.{slice_index_or, Contains, AllPairs, map, not, ◌&&◌}
 use Rattle.std.proofs.lemmas.List.{get_or_default}
 use Rattle.std.proofs.lemmas.List.Elements.{All-from_recursion, All-contains}
 use Rattle.std.proofs.lemmas.Bool.{cases_eq, cases_lt}
@@ -8,7 +8,7 @@ use Rattle.graph_core.specs.Graphs.{HasEdge, EndsAtNodes}
 use Rattle.graph_core.specs.Paths as paths
 use Rattle.graph_core.proofs.Reach.{Reaches-itself, Reaches-before, Reaches-through, Reaches-node}
 use Rattle.world.specs.declared.member.MemberId.{MemberId}
-use Rattle.world.specs.World.{World}
+use Rattle.class_hierarchy.specs.World.{World}
 use Rattle.machine.specs.declared.values.Value.{Value}
 use Rattle.machine.specs.declared.values.Value.TheVariants.{Ref}
 use Rattle.machine.specs.declared.heap.Cell.{Cell}

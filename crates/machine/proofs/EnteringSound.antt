@@ -1,12 +1,12 @@
 -- Which values can be arguments.
-use Rattle.std.proofs.Common.{◌≡◌, ◌≢◌, ◌↔◌, ◌⊎◌, inl, inr, ℕ, zero, suc, ◌≤◌, ◌<◌, ◌+◌, List, [], ◌∷◌, Bool, true, false, length, refl, sym, ◌∙◌, arith, IsTrue, ap, subst}
-use Rattle.world.specs.World.{World}
+use Rattle.std.proofs.Common.{◌≡◌, ◌≢◌, ◌↔◌, ℕ, ◌<◌, List, true, false, length, refl, sym, arith, subst}
+use Rattle.class_hierarchy.specs.World.{World}
 use Rattle.machine.specs.declared.values.Value.{Value}
 use Rattle.machine.specs.declared.values.Value.TheVariants.{Int, Long, Pad, Null, Ref}
 use Rattle.machine.specs.declared.entering_heap.Survey.{Survey}
-use Rattle.machine.specs.Heap.{Cells, is_of_type}
+use Rattle.machine.specs.Heap.{Cells}
 use Rattle.machine.specs.Entry.{is_class_type}
-use Rattle.machine.specs.EnteringCells.{agrees, is_in_range}
+use Rattle.machine.specs.EnteringCells.{agrees}
 use Rattle.machine.specs.EnteringHeap.{IsSurvey, AllPass}
 use Rattle.machine.specs.Entering.{IsSound}
 use Rattle.machine.proofs.EnteringCells.{agreeing_is}

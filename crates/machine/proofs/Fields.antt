@@ -3,7 +3,7 @@ use Rattle.std.proofs.Common.{◌≡◌, ℕ, ◌≤◌, List, [], ◌∷◌, �
 use Rattle.std.specs.List.{flat_map}
 use Rattle.std.proofs.lemmas.List.{append_assoc, map-append}
 use Rattle.world.specs.declared.member.MemberId.{MemberId}
-use Rattle.world.specs.World.{World, class_at}
+use Rattle.class_hierarchy.specs.World.{World, class_at}
 use Rattle.machine.specs.declared.values.Value.{Value}
 use Rattle.machine.specs.Heap.{default_of, own_fields}
 

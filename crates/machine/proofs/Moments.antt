@@ -4,7 +4,7 @@ use Rattle.std.specs.Prelude.{slice_get}
 use Rattle.nested_runs.specs.Nest.{Nest, base, stays}
 use Rattle.nested_runs.proofs.Nests.{nest_at, nest_moves, nest_starts, nest_returns}
 use Rattle.world.specs.declared.member.MemberId.{MemberId}
-use Rattle.world.specs.World.{World}
+use Rattle.class_hierarchy.specs.World.{World}
 use Rattle.machine.specs.declared.values.Value.{Value}
 use Rattle.machine.specs.declared.frames.Frame.{Frame}
 use Rattle.machine.specs.declared.configuration.Here.{Here}

@@ -22,7 +22,7 @@ use Rattle.op_table.specs.declared.acts.Call.{Call}
 use Rattle.op_table.specs.declared.acts.Call.TheVariants.{Virtual, Special, Static, Interface}
 use Rattle.world.specs.declared.member.MemberId.{MemberId}
 use Rattle.world.specs.declared.fault.ResolveFault.{ResolveFault}
-use Rattle.world.specs.World.{World, is_below, is_instantiable}
+use Rattle.class_hierarchy.specs.World.{World, is_below, is_instantiable}
 use Rattle.world.specs.Selection.{method_of, selected_by}
 use Rattle.class_reader.specs.Flags.{is_native}
 use Rattle.class_reader.specs.declared.class.Code.{Code}

@@ -13,8 +13,8 @@ use Rattle.op_table.specs.declared.acts.Small.TheVariants.{Byte, Char, Short}
 use Rattle.op_table.specs.declared.acts.Call.{Call}
 use Rattle.op_table.specs.declared.acts.Call.TheVariants.{Special, Static}
 use Rattle.world.specs.declared.member.MemberId.{MemberId}
-use Rattle.world.specs.World.{World, class_at, number_of, is_below, is_instantiable}
-use Rattle.world.specs.Access.{is_interface}
+use Rattle.class_hierarchy.specs.World.{World, class_at, number_of, is_below, is_instantiable}
+use Rattle.class_hierarchy.specs.Access.{is_interface}
 use Rattle.world.specs.Resolution.{resolved_method}
 use Rattle.world.specs.Selection.{method_of, selected_by}
 use Rattle.machine.specs.declared.values.Value.{Value}

@@ -1,12 +1,12 @@
 -- Entering a method: which one is meant, and the first argument with which it can't be entered (JVMS 2.6).
-use Rattle.std.specs.Prelude.{◌≡◌, ◌≢◌, ◌⊎◌, ◌↔◌, ℕ, suc, ◌<◌, ◌≤◌, Bool, false, List, length, map, take, Option, Some, None, slice_get, position}
+use Rattle.std.specs.Prelude.{◌≡◌, ◌≢◌, ◌⊎◌, ◌↔◌, ℕ, suc, ◌<◌, ◌≤◌, false, List, length, map, take, Option, Some, None, slice_get, position}
 use Rattle.std.specs.Option.{option_map, option_and_then}
 use Rattle.class_pool.specs.declared.target.Target.{Target}
 use Rattle.class_reader.specs.declared.class.Method.{Method}
 use Rattle.class_reader.specs.declared.class.Code.{Code}
 use Rattle.class_reader.specs.Flags.{is_static}
 use Rattle.world.specs.declared.member.MemberId.{MemberId}
-use Rattle.world.specs.World.{World, class_at, number_of}
+use Rattle.class_hierarchy.specs.World.{World, class_at, number_of}
 use Rattle.world.specs.Resolution.{is_method, member}
 use Rattle.machine.specs.declared.values.Value.{Value}
 use Rattle.machine.specs.declared.values.Value.TheVariants.{Int, Long, Pad, Null, Ref}

@@ -1,5 +1,5 @@
 -- Which objects and arrays are good, as tests.
-use Rattle.std.specs.Prelude.{ℕ, ◌==◌, ◌&&◌, not, nat_lt, nat_le, nat_eq, Bool, true, false, ℤ, List, [], ◌∷◌, length, slice_get, ◌||◌}
+use Rattle.std.specs.Prelude.{ℕ, ◌&&◌, not, nat_lt, nat_le, nat_eq, Bool, true, false, ℤ, List, [], ◌∷◌, length, slice_get, ◌||◌}
 use Rattle.std.specs.Option.{option_map_or}
 use Rattle.std.specs.Ordering.{int_eq}
 use Rattle.std.specs.List.{list_any, list_all}
@@ -7,7 +7,7 @@ use Rattle.op_table.specs.declared.acts.Width.TheVariants as widths
 use Rattle.world.specs.declared.member.MemberId.{MemberId}
 use Rattle.world.specs.Resolution.{member}
 use Rattle.class_reader.specs.declared.class.Field.{Field}
-use Rattle.world.specs.World.{World, class_at, line, is_instantiable}
+use Rattle.class_hierarchy.specs.World.{World, class_at, line, is_instantiable}
 use Rattle.machine.specs.declared.values.Value.{Value}
 use Rattle.machine.specs.declared.values.Value.TheVariants.{Int, Long, Pad, Null, Ref}
 use Rattle.machine.specs.Numbers.{fits}

@@ -1,9 +1,9 @@
 -- The heap as a graph of its numbers, and what is told of each.
-use Rattle.std.specs.Prelude.{◌≡◌, ◌↔◌, ◌⊎◌, ℕ, ◌<◌, Bool, true, not, ◌&&◌, ◌||◌, List, [], ◌∷◌, length, map, Contains, IsTrue, slice_index_or}
+use Rattle.std.specs.Prelude.{◌≡◌, ◌↔◌, ◌⊎◌, ℕ, ◌<◌, Bool, not, ◌&&◌, List, length, Contains, IsTrue, slice_index_or}
 use Rattle.graph_core.specs.Graphs.{HasEdge}
 use Rattle.graph_core.specs.Components.{AreTogether}
 use Rattle.graph_core.specs.Paths as paths
-use Rattle.world.specs.World.{World}
+use Rattle.class_hierarchy.specs.World.{World}
 use Rattle.machine.specs.declared.values.Value.{Value}
 use Rattle.machine.specs.declared.values.Value.TheVariants.{Ref}
 use Rattle.machine.specs.declared.entering_heap.Mark.{Mark}

@@ -9,7 +9,7 @@ use Rattle.class_reader.specs.Flags.{is_static}
 use Rattle.class_reader.specs.Descriptor.{IsFieldDescriptor}
 use Rattle.op_table.specs.declared.acts.Width.TheVariants as widths
 use Rattle.world.specs.declared.member.MemberId.{MemberId}
-use Rattle.world.specs.World.{World, class_at, is_instantiable}
+use Rattle.class_hierarchy.specs.World.{World, class_at, is_instantiable}
 use Rattle.machine.specs.declared.values.Value.{Value}
 use Rattle.machine.specs.declared.values.Value.TheVariants.{Int, Long, Pad, Null, Ref}
 use Rattle.machine.specs.declared.heap.Cell.{Cell}

@@ -5,7 +5,7 @@ use Rattle.std.specs.Str.{bytes_eq}
 use Rattle.class_reader.specs.declared.class.Field.{Field}
 use Rattle.class_reader.specs.Flags.{is_static}
 use Rattle.world.specs.declared.member.MemberId.{MemberId}
-use Rattle.world.specs.World.{World, class_at, number_of, line, is_below, object_name}
+use Rattle.class_hierarchy.specs.World.{World, class_at, number_of, line, is_below, object_name}
 use Rattle.machine.specs.declared.values.Value.{Value}
 use Rattle.machine.specs.declared.values.Value.TheVariants.{Int, Long, Pad, Null, Ref}
 use Rattle.machine.specs.declared.heap.Cell.{Cell}

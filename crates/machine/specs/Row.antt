@@ -18,7 +18,7 @@ use Rattle.op_table.specs.declared.acts.Small.{Small}
 use Rattle.op_table.specs.declared.acts.Width.{Width}
 use Rattle.op_table.specs.declared.acts.Width.TheVariants as widths
 use Rattle.world.specs.declared.member.MemberId.{MemberId}
-use Rattle.world.specs.World.{World, is_below, is_instantiable}
+use Rattle.class_hierarchy.specs.World.{World, is_below, is_instantiable}
 use Rattle.world.specs.Selection.{method_of, selected_by}
 use Rattle.machine.specs.declared.values.Value.{Value}
 use Rattle.machine.specs.declared.values.Value.TheVariants.{Int, Long, Pad, Null, Ref}

@@ -1,7 +1,7 @@
 -- Runs of the machine, from an entry on, and their moments.
 use Rattle.std.specs.Prelude.{◌≡◌, ◌≢◌, ℕ, ◌<◌, ◌≤◌, List, [], ◌∷◌, Some, slice_get}
 use Rattle.world.specs.declared.member.MemberId.{MemberId}
-use Rattle.world.specs.World.{World}
+use Rattle.class_hierarchy.specs.World.{World}
 use Rattle.machine.specs.declared.configuration.State.{State}
 use Rattle.machine.specs.declared.configuration.Event.TheVariants as events
 use Rattle.machine.specs.Step.{Step, step_of}

@@ -8,7 +8,7 @@ use Rattle.op_table.specs.declared.acts.Action.TheVariants as acts
 use Rattle.op_table.specs.declared.instr.Instr.{Instr}
 use Rattle.op_table.specs.Actions.{action_of}
 use Rattle.op_table.specs.Grammar.{instr_at}
-use Rattle.world.specs.World.{World, class_at}
+use Rattle.class_hierarchy.specs.World.{World, class_at}
 use Rattle.machine.specs.declared.values.Value.{Value}
 use Rattle.machine.specs.declared.frames.Frame.{Frame}
 use Rattle.machine.specs.declared.configuration.Here.{Here}

@@ -1,7 +1,7 @@
 -- What is asked of two types without their elements.
 use Rattle.std.specs.Prelude.{ℕ, ◌&&◌, ◌||◌, Bool, List, drop}
 use Rattle.std.specs.Str.{bytes_eq}
-use Rattle.world.specs.World.{World}
+use Rattle.class_hierarchy.specs.World.{World}
 use Rattle.world.specs.Instances.{begins}
 use Rattle.machine.specs.Types.{is_reference_type}
 use Rattle.machine.specs.Heap.{is_below_named, is_object_type, named_by}

@@ -2,7 +2,7 @@
 
 ghost use Rattle.std.specs.Prelude.{◌≡◌, ◌≤◌, ◌<◌, ◌^◌, ◌⊎◌, ◌↔◌, IfErr, IfOk, IfSome, IsTrue, Some, length, None, nat_lt, if◌then◌else◌, position, slice_get};
 ghost use Rattle.machine.specs.declared.entering.EnterFault.TheVariants as faults;
-ghost use Rattle.world.specs.World.{class_at};
+ghost use Rattle.class_hierarchy.specs.World.{class_at};
 ghost use Rattle.world.specs.Resolution.{is_method};
 ghost use Rattle.world.specs.Tables.{HasMethod};
 ghost use Rattle.machine.specs.Outcome.{method_at};

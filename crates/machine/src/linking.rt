@@ -4,7 +4,7 @@ ghost use Rattle.std.specs.Prelude.{◌≡◌, ◌<◌, length, IfOk};
 ghost use Rattle.std.specs.Option.{option_and_then};
 ghost use Rattle.std.specs.Result.{result_ok};
 ghost use Rattle.class_reader.specs.Flags as flags;
-ghost use Rattle.world.specs.World.{class_at};
+ghost use Rattle.class_hierarchy.specs.World.{class_at};
 ghost use Rattle.world.specs.Resolution.{resolved_method};
 ghost use Rattle.world.specs.Selection.{method_of, selected_by};
 ghost use Rattle.world.specs.Tables.{HasMethod};

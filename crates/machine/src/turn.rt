@@ -3,7 +3,7 @@
 ghost use Rattle.std.specs.Prelude.{◌≡◌, ◌+◌, ◌≤◌, length, IfSome, option_map};
 ghost use Rattle.std.specs.Result.{result_ok};
 ghost use Rattle.op_table.specs.Grammar.{instr_at};
-ghost use Rattle.world.specs.World.{class_at};
+ghost use Rattle.class_hierarchy.specs.World.{class_at};
 ghost use Rattle.cost_model.specs.Costs.{cost_at};
 ghost use Rattle.machine.specs.Step.{standing_at};
 

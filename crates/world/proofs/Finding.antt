@@ -1,5 +1,5 @@
 -- The first answer among classes.
-use Rattle.std.proofs.Common.{◌≡◌, ℕ, suc, ◌+◌, ◌-◌, ◌<◌, ◌≤◌, Bool, true, false, ◌&&◌, not, ◌||◌, if◌then◌else◌, List, [], ◌∷◌, length, drop, get_or, Option, Some, None, arith, cond, refl, sym, ap, ◌∙◌, nat_eq, add-one, drop-cons, is_some}
+use Rattle.std.proofs.Common.{◌≡◌, ℕ, ◌+◌, ◌<◌, ◌≤◌, Bool, ◌&&◌, not, if◌then◌else◌, List, [], ◌∷◌, length, drop, get_or, Option, Some, None, arith, cond, refl, sym, ap, subst, ◌∙◌, nat_eq, add-one, drop-cons, is_some}
 use Rattle.std.specs.Prelude.{find, Result, Ok, Err}
 use Rattle.std.specs.Option.{option_or, option_and_then, ok_or}
 use Rattle.std.specs.List.{list_any}
@@ -8,10 +8,11 @@ use Rattle.world.specs.declared.member.MemberId.{MemberId}
 use Rattle.world.specs.declared.fault.ResolveFault.{ResolveFault}
 use Rattle.world.specs.declared.fault.ResolveFault.TheVariants.{MissingMember, Ambiguous}
 use Rattle.world.specs.declared.access.MethodKind.TheVariants as kinds
-use Rattle.world.specs.World.{World, line, above, superinterfaces, ancestors}
-use Rattle.world.specs.Building.{first_number}
+use Rattle.class_hierarchy.specs.World.{World, line, above, superinterfaces, ancestors}
 use Rattle.world.specs.Resolution.{first_of, method_in, has_default, is_most_specific, alone, only, interface_method, field_in, field_from, method_from}
-use Rattle.world.specs.Tables.{SameFirst, Tells}
+use Rattle.class_hierarchy.specs.Tables.{SameFirst}
+use Rattle.class_hierarchy.proofs.First.{any_same}
+use Rattle.world.specs.Tables.{Tells}
 
 -- ---- loops
 
@@ -39,13 +40,6 @@ by_find f (x ∷ xs) = by_find_head f x xs (f x) refl (by_find f xs)
 
 pub first_same : {A : Type 0} (f : ℕ → Option A) (xs ys : List ℕ) → SameFirst xs ys → first_of f xs ≡ first_of f ys
 first_same f xs ys h = by_find f xs ∙ ap (λ o. option_and_then f o) (h.same (λ x. is_some (f x))) ∙ sym (by_find f ys)
-
-any_find : (p : ℕ → Bool) (xs : List ℕ) → list_any p xs ≡ is_some (find p xs)
-any_find p [] = refl
-any_find p (x ∷ xs) = elim (p x) as (λ b. (b || list_any p xs) ≡ is_some (cond b (Some x) (find p xs))) [ true ↦ refl | false ↦ any_find p xs ]
-
-pub any_same : (p : ℕ → Bool) (xs ys : List ℕ) → SameFirst xs ys → list_any p xs ≡ list_any p ys
-any_same p xs ys h = any_find p xs ∙ ap (λ o. is_some o) (h.same p) ∙ sym (any_find p ys)
 
 pub any_each : (p q : ℕ → Bool) → ((x : ℕ) → p x ≡ q x) → (xs : List ℕ) → list_any p xs ≡ list_any q xs
 any_each p q h [] = refl
@@ -83,29 +77,18 @@ pub tells_self : {A : Type 0} (r : Result A ResolveFault) → Tells r r
 tells_self (Ok x) = refl
 tells_self (Err fault) = λ ne. refl
 
-pub field_by : (w : World) (name desc : List ℕ) (c : ℕ) (v : List ℕ) (o : Option MemberId) → SameFirst v (ancestors w c) → o ≡ first_of (field_in w name desc) v → field_from w name desc c ≡ ok_or o MissingMember
-unfolding field_from
-field_by w name desc c v o h e = ap (λ x. ok_or x MissingMember) (sym (e ∙ first_same (field_in w name desc) v (ancestors w c) h))
+pub tells_as : {A : Type 0} (r s : Result A ResolveFault) → r ≡ s → Tells r s
+tells_as r s e = rw (← e) (tells_self r)
 
-pub method_by : (w : World) (name desc : List ℕ) (c : ℕ) (l v : List ℕ) (r : Result MemberId ResolveFault) → l ≡ line w c → SameFirst v (superinterfaces w c) → None ≡ first_of (method_in w name desc kinds.Any) l → r ≡ interface_method w name desc v → Tells r (method_from w name desc c)
+pub field_by : (w : World) (name desc : List ℕ) (c : ℕ) (v : List ℕ) (r : Result MemberId ResolveFault) → SameFirst v (ancestors w c) → r ≡ ok_or (first_of (field_in w name desc) v) MissingMember → Tells r (field_from w name desc c)
+unfolding field_from
+field_by w name desc c v r h e =
+    tells_as r (ok_or (first_of (field_in w name desc) (ancestors w c)) MissingMember) (e ∙ ap (λ o. ok_or o MissingMember) (first_same (field_in w name desc) v (ancestors w c) h))
+
+pub method_by : (w : World) (name desc : List ℕ) (c : ℕ) (l v : List ℕ) (r : Result MemberId ResolveFault) → l ≡ line w c → SameFirst v (superinterfaces w c) → None ≡ first_of (method_in w name desc kinds.Any) l → Tells r (interface_method w name desc v) → Tells r (method_from w name desc c)
 unfolding method_from
 method_by w name desc c l v r e h none i =
     let nothing : first_of (method_in w name desc kinds.Any) (line w c) ≡ None = rw (← e) (sym none) in
-    let same : r ≡ interface_method w name desc (superinterfaces w c) = i ∙ interface_same w name desc v (superinterfaces w c) h in
-    rw nothing (rw (← same) (tells_self r))
+    rw nothing (subst (λ (answer : Result MemberId ResolveFault). Tells r answer) (interface_same w name desc v (superinterfaces w c) h) i)
 
 -- ---- by numbers
-
-number_at : {A : Type 0} (f : ℕ → Option A) (n i : ℕ) → i < n → first_number f (n - i) i ≡ option_or (f i) (first_number f (n - (i + 1)) (i + 1))
-unfolding first_number
-number_at f n i h = let less : n - i ≡ suc (n - (i + 1)) = omega arith in rw (less, add-one) refl
-
-pub number_here : {A : Type 0} (f : ℕ → Option A) (n i : ℕ) (x : A) (r : Option A) → i < n → r ≡ first_number f (n - i) i → f i ≡ Some x → r ≡ Some x
-number_here f n i x r h e g = e ∙ number_at f n i h ∙ ap (λ o. option_or o (first_number f (n - (i + 1)) (i + 1))) g
-
-pub number_later : {A : Type 0} (f : ℕ → Option A) (n i : ℕ) (r : Option A) → i < n → r ≡ first_number f (n - i) i → f i ≡ None → r ≡ first_number f (n - (i + 1)) (i + 1)
-number_later f n i r h e g = e ∙ number_at f n i h ∙ ap (λ o. option_or o (first_number f (n - (i + 1)) (i + 1))) g
-
-pub number_end : {A : Type 0} (f : ℕ → Option A) (n i : ℕ) (r : Option A) → n ≤ i → r ≡ first_number f (n - i) i → r ≡ None
-unfolding first_number
-number_end f n i r h e = let none : n - i ≡ 0 = omega arith in e ∙ ap (λ k. first_number f k i) none

@@ -1,7 +1,7 @@
 -- Instances, bracket by bracket.
 use Rattle.std.proofs.Common.{◌≡◌, ℕ, zero, suc, ◌+◌, ◌-◌, ◌<◌, Bool, true, false, ◌||◌, List, length, Some, None, arith, refl, sym, ap, ◌∙◌}
 use Rattle.std.specs.Str.{bytes_eq}
-use Rattle.world.specs.World.{World, object_name}
+use Rattle.class_hierarchy.specs.World.{World, object_name}
 use Rattle.world.specs.Instances.{is_array, elements_of, on_elements, class_instance, is_instance, is_instance_by}
 
 pub inst_start : (w : World) (a b : List ℕ) → is_instance w a b ≡ is_instance_by w (length a - 0) a b

@@ -7,7 +7,7 @@ use Rattle.class_reader.specs.declared.class.ClassRecord.{ClassRecord}
 use Rattle.class_reader.specs.declared.class.Method.{Method}
 use Rattle.class_reader.specs.declared.class.Code.{Code}
 use Rattle.class_reader.specs.Valid.{IsClass, IsValidMethod, HasValidCode}
-use Rattle.world.specs.World.{object_class, constructor}
+use Rattle.class_hierarchy.specs.World.{object_class, constructor}
 use Rattle.world.specs.Tables.{HasShortCode}
 
 code_short : (pool : List (Option Constant)) (flags : ℕ) (code : Option Code) → HasValidCode pool flags code → IfSome code (λ (c : Code). length c.bytes ≤ 65535)

@@ -1,10 +1,10 @@
 -- What a name means is there.
-use Rattle.std.proofs.Common.{◌≡◌, inl, inr, ℕ, zero, suc, ◌<◌, Bool, true, false, ◌||◌, ◌&&◌, not, cond, List, [], ◌∷◌, length, Option, Some, None, refl, sym, ap, subst, ◌∙◌, nat_eq}
+use Rattle.std.proofs.Common.{◌≡◌, ℕ, ◌<◌, Bool, true, false, ◌&&◌, not, cond, List, [], ◌∷◌, length, Option, Some, None, refl, sym, ap, subst, ◌∙◌, nat_eq}
 use Rattle.std.specs.Prelude.{find, Result, Ok, Err, if◌then◌else◌}
 use Rattle.std.specs.Option.{option_or, option_and_then, option_map, ok_or, option_map_or}
 use Rattle.std.specs.Prelude.{slice_get}
-use Rattle.std.specs.List.{list_any, flat_map, position}
-use Rattle.std.proofs.lemmas.Bool.{eqb-true, eq-eqb}
+use Rattle.std.specs.List.{list_any, position}
+use Rattle.std.proofs.lemmas.Bool.{eq-eqb}
 use Rattle.std.proofs.lemmas.List.Quantifiers.{position-Some}
 use Rattle.class_reader.specs.declared.class.Field.{Field}
 use Rattle.class_reader.specs.declared.class.Method.{Method}
@@ -14,29 +14,13 @@ use Rattle.world.specs.declared.access.MethodKind.TheVariants as kinds
 use Rattle.world.specs.declared.fault.ResolveFault.{ResolveFault}
 use Rattle.world.specs.declared.fault.ResolveFault.TheVariants.{MissingMember, Ambiguous, PackageOverride, AbstractTarget, NotInstance}
 use Rattle.world.specs.Access.{has_kind, is_private, is_no_target}
-use Rattle.world.specs.World.{World, constructor, class_at, superclass, interfaces, line, line_from, above, above_by, superinterfaces, ancestors, is_below}
+use Rattle.class_hierarchy.specs.World.{World, constructor, class_at, line, above, superinterfaces, ancestors, is_below}
 use Rattle.world.specs.Resolution.{first_of, member, is_field, field_in, field_from, is_method, of_kind, method_in, alone, only, interface_method, or_interface, method_from, has_default, is_most_specific}
 use Rattle.world.specs.Selection.{method_of, only_default, inherited, is_package_override, allowed, chosen, selected_by}
 use Rattle.world.specs.Tables.{HasField, HasMethod}
-use Rattle.world.proofs.First.{or_true}
-use Rattle.world.proofs.Exploring.{in_either}
-use Rattle.world.proofs.Cycles.{superclass_below, interfaces_below}
-
--- each number is one of a class
-abbrev pub AreClasses : World → List ℕ → Type 0
-AreClasses w cs = (d : ℕ) → list_any (nat_eq d) cs ≡ true → d < length w
+use Rattle.class_hierarchy.proofs.Inside.{AreClasses, head_in, tail_in, more_below, flat_below, above_below, line_inside, superinterfaces_inside}
 
 -- ---- heads of lists
-
-or_yes : (a b : Bool) → b ≡ true → (a || b) ≡ true
-or_yes true b h = refl
-or_yes false b h = h
-
-head_in : (x : ℕ) (xs : List ℕ) → list_any (nat_eq x) (x ∷ xs) ≡ true
-head_in x xs = rw (eq-eqb x x refl) refl
-
-tail_in : (b x : ℕ) (xs : List ℕ) → list_any (nat_eq b) xs ≡ true → list_any (nat_eq b) (x ∷ xs) ≡ true
-tail_in b x xs h = or_yes (nat_eq b x) (list_any (nat_eq b) xs) h
 
 first_head : {A : Type 0} (f : ℕ → Option A) (x : ℕ) (xs : List ℕ) (m : A) (o : Option A) → f x ≡ o → option_or o (first_of f xs) ≡ Some m → (first_of f xs ≡ Some m → (y : ℕ) × (list_any (nat_eq y) xs ≡ true) × (f y ≡ Some m)) → (y : ℕ) × (list_any (nat_eq y) (x ∷ xs) ≡ true) × (f y ≡ Some m)
 first_head f x xs m None g e h = let p = h e in (p.0, tail_in p.0 x xs p.1, p.2)
@@ -49,42 +33,6 @@ find_head_in false d x xs o e h = tail_in d x xs (h e)
 kind_test : (b : Bool) (place i : ℕ) → (if b then Some place else None) ≡ Some i → i ≡ place
 kind_test true place i e = cc
 kind_test false place i e = absurd cc
-
-more_below : (w : World) (c : ℕ) (cs : List ℕ) → c < length w → AreClasses w cs → AreClasses w (c ∷ cs)
-more_below w c cs h k d e =
-    elim (or_true (nat_eq d c) (list_any (nat_eq d) cs) e) [
-      | inl same ↦ rw (eqb-true d c same) h
-      | inr later ↦ k d later
-    ]
-
-none_below : (w : World) → AreClasses w []
-none_below w d e = absurd cc
-
-flat_below : (w : World) (f : ℕ → List ℕ) → ((x : ℕ) → x < length w → AreClasses w (f x)) → (xs : List ℕ) → AreClasses w xs → AreClasses w (flat_map f xs)
-flat_below w f h [] k = none_below w
-flat_below w f h (x ∷ xs) k = λ d e.
-    elim (in_either d (f x) (flat_map f xs) e) [
-      | inl left ↦ h x (k x (head_in x xs)) d left
-      | inr right ↦ flat_below w f h xs (λ b i. k b (tail_in b x xs i)) d right
-    ]
-
-line_below : (w : World) (n : ℕ) (o : Option ℕ) → ((i : ℕ) → o ≡ Some i → i < length w) → AreClasses w (line_from w n o)
-unfolding line_from
-line_below w zero o h = none_below w
-line_below w (suc n) None h = none_below w
-line_below w (suc n) (Some c) h = more_below w c (line_from w n (superclass w c)) (h c refl) (line_below w n (superclass w c) (superclass_below w c))
-
-above_below : (w : World) (n c : ℕ) → AreClasses w (above_by w n c)
-unfolding above_by
-above_below w zero c = none_below w
-above_below w (suc n) c = flat_below w (λ i. i ∷ above_by w n i) (λ x h. more_below w x (above_by w n x) h (above_below w n x)) (interfaces w c) (interfaces_below w c)
-
-pub line_inside : (w : World) (c : ℕ) → c < length w → AreClasses w (line w c)
-line_inside w c h = line_below w (length w) (Some c) (λ i e. let same : c ≡ i = cc in rw (← same) h)
-
-pub superinterfaces_inside : (w : World) (c : ℕ) → c < length w → AreClasses w (superinterfaces w c)
-unfolding superinterfaces
-superinterfaces_inside w c h = flat_below w (above w) (λ x k. above_below w (length w) x) (line w c) (line_inside w c h)
 
 -- ---- the class that answers
 

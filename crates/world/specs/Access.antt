@@ -1,4 +1,4 @@
--- Access flags of classes (JVMS 4.1, table 4.1-B) and methods (JVMS 4.6, table 4.6-A).
+-- Access flags of methods (JVMS 4.6, table 4.6-A).
 use Rattle.std.specs.Prelude.{ℕ, ◌/◌, ◌%◌, ◌==◌, ◌||◌, not, Bool, true}
 use Rattle.class_reader.specs.Flags.{is_static, is_abstract}
 use Rattle.world.specs.declared.access.MethodKind.{MethodKind}
@@ -7,14 +7,6 @@ use Rattle.world.specs.declared.access.MethodKind.TheVariants.{Any, Package, Inh
 -- ACC_PRIVATE, 0x0002
 abbrev pub is_private : ℕ → Bool
 is_private flags = flags / 2 % 2 == 1
-
--- ACC_FINAL, 0x0010
-abbrev pub is_final : ℕ → Bool
-is_final flags = flags / 16 % 2 == 1
-
--- ACC_INTERFACE, 0x0200
-abbrev pub is_interface : ℕ → Bool
-is_interface flags = flags / 512 % 2 == 1
 
 -- none of ACC_PUBLIC, 0x0001, ACC_PRIVATE and ACC_PROTECTED, 0x0004
 abbrev pub is_package_private : ℕ → Bool

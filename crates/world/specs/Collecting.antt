@@ -1,13 +1,12 @@
 -- The targets that are met class by class.
-use Rattle.std.specs.Prelude.{◌≡◌, ℕ, ◌<◌, ◌≤◌, nat_lt, IsTrue, Bool, true, false, ◌↔◌, List, [], ◌∷◌, Option, Some, None, Result, Ok, Err, Contains, AllPairs, if◌then◌else◌}
+use Rattle.std.specs.Prelude.{◌≡◌, ℕ, ◌<◌, ◌≤◌, nat_lt, IsTrue, ◌↔◌, List, [], ◌∷◌, Option, Some, None, Result, Ok, Err, Contains, AllPairs, if◌then◌else◌}
 use Rattle.std.specs.Ordering.{nat_cmp, match_ordering}
 use Rattle.std.specs.Cmp.Lexicographic.{slice_cmp}
 use Rattle.std.specs.Borrow.{Bor}
 use Rattle.std.specs.declared.cmp.Ordering.{Ordering}
 use Rattle.world.specs.declared.member.MemberId.{MemberId}
 use Rattle.world.specs.declared.fault.ResolveFault.{ResolveFault}
-use Rattle.world.specs.declared.fault.ResolveFault.TheVariants.{Memory}
-use Rattle.world.specs.World.{World, class_at}
+use Rattle.class_hierarchy.specs.World.{World, class_at}
 use Rattle.world.specs.Selection.{selected_by}
 use Rattle.world.specs.Targets.{is_receiver, rank, IsBefore}
 
@@ -44,8 +43,3 @@ pub record Collects (w : World) (c : ℕ) (m : MemberId) (n : ℕ) (targets : Li
   pub all : (t : MemberId) → Contains targets t ↔ GivesBelow w c m n (Ok t)
   pub in_order : AllPairs (IsBefore w) targets
   pub first : IsFirstBelow w c m n fault
-
--- memory ran out
-abbrev pub is_memory : ResolveFault → Bool
-is_memory Memory = true
-is_memory fault = false

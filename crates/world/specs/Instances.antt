@@ -1,7 +1,7 @@
 -- Instances by the names of classes and the descriptors of arrays.
 use Rattle.std.specs.Prelude.{ℕ, zero, suc, ◌-◌, ◌==◌, ◌&&◌, ◌||◌, Bool, false, List, [], ◌∷◌, length, take, drop, Option, Some, None, if◌then◌else◌}
 use Rattle.std.specs.Str.{bytes_eq}
-use Rattle.world.specs.World.{World, object_name, number_of, is_below}
+use Rattle.class_hierarchy.specs.World.{World, object_name, number_of, is_below}
 
 -- the text begins with this byte
 abbrev pub begins : ℕ → List ℕ → Bool

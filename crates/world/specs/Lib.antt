@@ -1,13 +1,9 @@
 pub mod Access
-pub mod World
-pub mod Building
 pub mod Resolution
+pub mod Members
 pub mod Selection
 pub mod Targets
 pub mod Tables
-pub mod Faults
 pub mod Instances
 pub mod Collecting
-pub mod Names
-pub mod Ranks
-pub mod Orders
+pub mod Standings

@@ -11,7 +11,7 @@ use Rattle.world.specs.declared.fault.ResolveFault.TheVariants.{MissingClass, Mi
 use Rattle.world.specs.declared.access.MethodKind.{MethodKind}
 use Rattle.world.specs.declared.access.MethodKind.TheVariants as kinds
 use Rattle.world.specs.Access.{has_kind}
-use Rattle.world.specs.World.{World, class_at, number_of, line, above, superinterfaces, ancestors}
+use Rattle.class_hierarchy.specs.World.{World, class_at, number_of, line, above, superinterfaces, ancestors}
 
 -- the first answer of classes in this order
 abbrev pub first_of : {A : Type 0} → (ℕ → Option A) → List ℕ → Option A

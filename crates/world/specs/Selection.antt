@@ -8,7 +8,7 @@ use Rattle.world.specs.declared.fault.ResolveFault.{ResolveFault}
 use Rattle.world.specs.declared.fault.ResolveFault.TheVariants.{MissingMember, PackageOverride, AbstractTarget, NotInstance}
 use Rattle.world.specs.declared.access.MethodKind.TheVariants as kinds
 use Rattle.world.specs.Access.{is_private, is_no_target}
-use Rattle.world.specs.World.{World, constructor, class_at, number_of, line, superinterfaces, is_below}
+use Rattle.class_hierarchy.specs.World.{World, constructor, class_at, number_of, line, superinterfaces, is_below}
 use Rattle.world.specs.Resolution.{first_of, in_class, method_in, has_default, only, or_interface}
 
 -- the method with this number

@@ -6,7 +6,7 @@ use Rattle.std.specs.declared.cmp.Ordering.TheVariants.{Less}
 use Rattle.world.specs.declared.member.MemberId.{MemberId}
 use Rattle.world.specs.declared.fault.ResolveFault.{ResolveFault}
 use Rattle.world.specs.declared.fault.ResolveFault.TheVariants.{MissingClass, MissingMember, Ambiguous, PackageOverride, AbstractTarget, NotInstance, Memory}
-use Rattle.world.specs.World.{World, class_at, is_below, is_instantiable}
+use Rattle.class_hierarchy.specs.World.{World, class_at, is_below, is_instantiable}
 use Rattle.world.specs.Selection.{selected_by}
 
 -- an object of the class r can stand where one of c is named

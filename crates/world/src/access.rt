@@ -5,10 +5,6 @@ use class_reader::{is_abstract, is_static};
 
 /// Only methods of the same class may call the method (JVMS 4.6).
 const ACC_PRIVATE: u16 = 0x0002;
-/// The class has no subclasses (JVMS 4.1).
-const ACC_FINAL: u16 = 0x0010;
-/// The class is an interface (JVMS 4.1).
-const ACC_INTERFACE: u16 = 0x0200;
 /// With none of these flags, ACC_PUBLIC, ACC_PRIVATE and ACC_PROTECTED, a method is for its package alone.
 const ACCESS: u16 = 0x0008;
 
@@ -29,20 +25,6 @@ pub(crate) fn is_private(flags: u16) -> bool
     ensures { result ≡ access.is_private flags }
 {
     flags / ACC_PRIVATE % 2 == 1
-}
-
-/// Whether a class with these flags may have no subclass.
-pub(crate) fn is_final(flags: u16) -> bool
-    ensures { result ≡ access.is_final flags }
-{
-    flags / ACC_FINAL % 2 == 1
-}
-
-/// Whether a class with these flags is an interface.
-pub(crate) fn is_interface(flags: u16) -> bool
-    ensures { result ≡ access.is_interface flags }
-{
-    flags / ACC_INTERFACE % 2 == 1
 }
 
 /// Whether no instance can run a method with these flags.

@@ -3,7 +3,7 @@
 ghost use Rattle.std.specs.Prelude.{◌≡◌, ◌-◌, ◌||◌, drop, length, take};
 ghost use Rattle.std.specs.Option.{option_map};
 ghost use Rattle.std.specs.Str.{bytes_eq};
-ghost use Rattle.world.specs.World.{object_name};
+ghost use Rattle.class_hierarchy.specs.World.{object_name};
 ghost use Rattle.world.specs.Instances.{begins, is_array, is_reference, name_of, elements_of, class_instance, is_instance};
 
 use crate::world::World;

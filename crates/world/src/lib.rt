@@ -1,25 +1,19 @@
-//! The classes that a program can meet, and what their names and calls mean.
+//! What names of members mean in the classes that a program can meet, and which methods its calls run.
 #![tactic(auto)]
 
 mod access;
-mod build;
-mod built_in;
-mod classes;
-mod cycle;
+mod declared;
 mod fault;
 mod instance;
-mod laws;
 mod member;
-mod naming;
-mod rank;
+mod members;
 mod resolve;
 mod select;
-mod table;
+mod standing;
 mod targets;
 mod world;
 
-pub use fault::{ResolveFault, WorldFault};
-pub use laws::{interfaces_are_whole, lines_are_whole, names_are_own, superclasses_are_there};
+pub use fault::ResolveFault;
 pub use member::MemberId;
 pub use world::World;
 

@@ -3,7 +3,7 @@
 ghost use Rattle.std.specs.Prelude.{◌≡◌, ◌∷◌, ◌&&◌, not, nat_eq, Ok, find, is_some, length, IfOk};
 ghost use Rattle.std.specs.List.{list_any};
 ghost use Rattle.world.specs.declared.access.MethodKind.TheVariants as kinds;
-ghost use Rattle.world.specs.World.{line, above, superclass, is_below};
+ghost use Rattle.class_hierarchy.specs.World.{line, above, superclass, is_below};
 ghost use Rattle.world.specs.Resolution.{method_in, has_default};
 ghost use Rattle.world.specs.Selection.{package_of, same_package, meets_package, only_default, inherited, is_package_override, allowed, chosen, selected_by, selected, method_of};
 ghost use Rattle.world.specs.Tables.{HasMethod, Tells};
@@ -33,11 +33,11 @@ fn package_of(name: &[u8]) -> &[u8]
 
 impl World {
     /// Whether two classes are of one package.
-    fn same_package(&self, c: u32, d: u32) -> bool
+    pub(crate) fn same_package(&self, c: u32, d: u32) -> bool
         ensures { result ≡ same_package self.now c d }
     {
-        package_of(self.classes.record(c).name.as_slice())
-            == package_of(self.classes.record(d).name.as_slice())
+        package_of(self.hierarchy.record(c).name.as_slice())
+            == package_of(self.hierarchy.record(d).name.as_slice())
     }
 
     /// Whether a class of another package has the method.
@@ -48,20 +48,25 @@ impl World {
             && !self.same_package(d, *e))
     }
 
-    /// Whether the class has a method of this name, descriptor and kind.
-    fn has_such(&self, class: u32, name: &[u8], desc: &[u8], kind: MethodKind) -> bool
-        ensures { result ≡ is_some (method_in self.now name.now desc.now kind class) }
+    /// The first class that has the method for its package alone.
+    fn first_for_package(&self, among: &[u32], name: &[u8], desc: &[u8]) -> Option<u32>
+        ensures { result ≡ find (λ d. is_some (method_in self.now name.now desc.now kinds.Package d)) among.now }
     {
-        self.classes.has_method(class, name, desc, kind)
+        among
+            .iter()
+            .copied()
+            .find(|d| self.has_such(*d, name, desc, MethodKind::Package))
     }
 
-    /// Whether a method for its package alone meets one of another package.
-    #[tactic(auto, unfolding(crate::specs::Selection::meets_package))]
+    /// Whether a method for its package alone meets one of another package. The first such method decides: where all
+    /// that have the method are of its package, no other one is met either.
     fn meets_package(&self, among: &[u32], name: &[u8], desc: &[u8]) -> bool
         ensures { result ≡ meets_package self.now name.now desc.now among.now }
     {
-        among.iter().any(|d| self.has_such(*d, name, desc, MethodKind::Package)
-            && self.is_met(among, name, desc, *d))
+        match self.first_for_package(among, name, desc) {
+            Some(d) => self.is_met(among, name, desc, d),
+            None => false,
+        }
     }
 
     /// The first interface with a default method.
@@ -98,7 +103,7 @@ impl World {
                 if self.has_other_default(among, name, desc, d) {
                     Err(ResolveFault::Ambiguous)
                 } else {
-                    default_of(&self.classes, d, name, desc)
+                    default_of(self, d, name, desc)
                 }
             }
             None => Err(ResolveFault::MissingMember),
@@ -117,40 +122,13 @@ impl World {
         requires { chain.now ≡ line self.now class }
         ensures { Tells result (inherited self.now name.now desc.now class) }
     {
-        match first_method(&self.classes, chain, name, desc, MethodKind::Inherited) {
+        match first_method(self, chain, name, desc, MethodKind::Inherited) {
             Some(method) => Ok(method),
             None => {
-                let among = self.superinterfaces(alloc, class)?;
+                let among = self.hierarchy.superinterfaces(alloc, class)?;
                 self.only_default(&among, name, desc)
             }
         }
-    }
-
-    /// Whether d is the class e or stands above it by names of interfaces.
-    fn is_at_or_above(&self, e: u32, d: u32) -> bool
-        ensures { result ≡ list_any (nat_eq d) (e ∷ above self.now e) }
-    {
-        d == e || self.is_above(e, d)
-    }
-
-    /// Whether an object of the class is an instance of the other: of itself, of a superclass, or of an interface that
-    /// one of these names, also through interfaces.
-    pub fn is_below(&self, class: u32, other: u32) -> bool
-        ensures { result ≡ is_below self.now class other }
-    {
-        let mut next = Some(class);
-        for _ in 0..self.count() {
-            match next {
-                Some(at) => {
-                    if self.is_at_or_above(at, other) {
-                        return true;
-                    }
-                    next = self.superclass(at);
-                }
-                None => return false,
-            }
-        }
-        false
     }
 
     /// Whether the receiver's classes have the method across packages.
@@ -163,11 +141,11 @@ impl World {
     }
 
     /// The flags of a method.
-    fn flags_of(&self, method: MemberId) -> u16
+    pub(crate) fn flags_of(&self, method: MemberId) -> u16
         ensures { result ≡ (method_of self.now method).flags }
     {
         match self
-            .classes
+            .hierarchy
             .record(method.class)
             .methods
             .as_slice()
@@ -244,7 +222,7 @@ impl World {
         requires { HasMethod self.now m }
         ensures { Tells result (selected_by self.now m class) }
     {
-        let chain = self.classes.line(alloc, class)?;
+        let chain = self.hierarchy.line(alloc, class)?;
         let method = self.method_at(m);
         let chosen = self.chosen(alloc, &chain, class, m, method)?;
         self.allowed(&chain, class, m, method, chosen)

@@ -1,4 +1,5 @@
 use super::*;
+use class_hierarchy::WorldFault;
 use class_pool::Text;
 use class_reader::{Class, read};
 use std::alloc::{AllocError, Global};

@@ -1,5 +1,5 @@
 use Rattle.std.proofs.Common.{◌≡◌, length, map}
-use Rattle.world.specs.World.{World}
+use Rattle.class_hierarchy.specs.World.{World}
 use Rattle.code_flow.specs.Scanning.{scan_of}
 use Rattle.code_flow.specs.Returning.{IsGraphTo}
 use Rattle.code_flow.proofs.calling.graph_of.Given as goal

@@ -1,6 +1,6 @@
 use Rattle.std.proofs.Common.{◌≡◌, ◌<◌, ◌++◌, length, map, All}
 use Rattle.std.specs.List.{flat_map}
-use Rattle.world.specs.World.{class_at}
+use Rattle.class_hierarchy.specs.World.{class_at}
 use Rattle.machine.specs.Heap.{default_of, new_fields, own_fields}
 use Rattle.machine.proofs.creating.new_fields.Given as goal
 

@@ -1,4 +1,4 @@
-use Rattle.std.proofs.Common.{◌≡◌, ◌∙◌, ◌+◌, ◌<◌, ℕ, suc, sym, arith, subst, length, take, Some, List, add-one}
+use Rattle.std.proofs.Common.{◌≡◌, ◌∙◌, ◌+◌, ℕ, suc, sym, arith, subst, length, take, Some, List, add-one}
 use Rattle.std.specs.Prelude.{slice_get}
 use Rattle.machine.specs.Entry.{words_of_value, words_of_values}
 use Rattle.machine.specs.Entering.{IsSound}

@@ -1,4 +1,4 @@
-use Rattle.std.proofs.Common.{◌≡◌, ◌∙◌, sym, arith, subst, ℕ, true, inl, inr}
+use Rattle.std.proofs.Common.{◌≡◌, sym, arith, subst, ℕ, true, inl, inr}
 use Rattle.std.proofs.lemmas.Bool.{cases_eq}
 use Rattle.machine.specs.EnteringHeap.{PassesAt}
 use Rattle.machine.proofs.entering_heap.all_pass.Goals as goal

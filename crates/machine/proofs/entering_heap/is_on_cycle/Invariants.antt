@@ -1,6 +1,5 @@
-use Rattle.std.proofs.Common.{◌≡◌, ◌≢◌, ℕ, ◌<◌, length}
+use Rattle.std.proofs.Common.{◌≢◌, ℕ, ◌<◌}
 use Rattle.std.specs.Prelude.{slice_index}
-use Rattle.graph_core.specs.Graphs.{successors_of}
 use Rattle.machine.proofs.entering_heap.is_on_cycle.Given as goal
 
 abbrev pub invariant-loop-c : goal.invariant-loop-c

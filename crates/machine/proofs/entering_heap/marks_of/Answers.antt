@@ -1,8 +1,7 @@
-use Rattle.std.proofs.Common.{◌∙◌, ◌++◌, ◌∷◌, [], List, sym, arith, subst, length}
+use Rattle.std.proofs.Common.{List, sym, arith, subst}
 use Rattle.machine.specs.declared.entering_heap.Mark.{Mark}
 use Rattle.machine.specs.EnteringHeap.{AreMarks}
 use Rattle.machine.proofs.EnteringHeap.{marks_next}
-use Rattle.machine.proofs.EnteringReach.{sound_is}
 use Rattle.machine.proofs.entering_heap.marks_of.Goals as goal
 
 pub loop-b-preserved : goal.loop-b-preserved

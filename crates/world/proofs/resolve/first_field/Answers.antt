@@ -5,11 +5,11 @@ use Rattle.world.proofs.resolve.first_field.Goals as goal
 
 pub returns-in-Some : goal.returns-in-Some
 returns-in-Some c =
-    sym (first_here (field_in c.args.classes.now c.args.name.now c.args.desc.now) c.args.among.now c.loop-class.class-index c.in-Some.field (first_of (field_in c.args.classes.now c.args.name.now c.args.desc.now) c.args.among.now) c.loop-class-test.true c.loop-class.invariant (sym c.in-Some.ensures))
+    sym (first_here (field_in c.args.world.now c.args.name.now c.args.desc.now) c.args.among.now c.loop-class.class-index c.in-Some.field (first_of (field_in c.args.world.now c.args.name.now c.args.desc.now) c.args.among.now) c.loop-class-test.true c.loop-class.invariant (sym c.in-Some.ensures))
 
 pub loop-class-preserved : goal.loop-class-preserved
 loop-class-preserved c =
-    first_later (field_in c.args.classes.now c.args.name.now c.args.desc.now) c.args.among.now c.loop-class.class-index (first_of (field_in c.args.classes.now c.args.name.now c.args.desc.now) c.args.among.now) c.loop-class-test.true c.loop-class.invariant (sym c.in-None.ensures)
+    first_later (field_in c.args.world.now c.args.name.now c.args.desc.now) c.args.among.now c.loop-class.class-index (first_of (field_in c.args.world.now c.args.name.now c.args.desc.now) c.args.among.now) c.loop-class-test.true c.loop-class.invariant (sym c.in-None.ensures)
 
 pub returns : goal.returns
-returns c = sym (first_end (field_in c.args.classes.now c.args.name.now c.args.desc.now) c.args.among.now c.loop-class.class-index (first_of (field_in c.args.classes.now c.args.name.now c.args.desc.now) c.args.among.now) (omega arith) c.loop-class.invariant)
+returns c = sym (first_end (field_in c.args.world.now c.args.name.now c.args.desc.now) c.args.among.now c.loop-class.class-index (first_of (field_in c.args.world.now c.args.name.now c.args.desc.now) c.args.among.now) (omega arith) c.loop-class.invariant)

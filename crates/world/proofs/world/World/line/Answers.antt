@@ -1,4 +1,4 @@
-use Rattle.world.proofs.WellBuilt.{all_below}
+use Rattle.class_hierarchy.proofs.WellBuilt.{all_below}
 use Rattle.world.proofs.world.World.line.Goals as goal
 
 pub returns-clause-bound : goal.returns-clause-bound

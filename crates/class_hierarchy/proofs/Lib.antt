@@ -1,0 +1,15 @@
+pub mod Places
+pub mod First
+pub mod FirstNumber
+pub mod Rows
+pub mod Lines
+pub mod Exploring
+pub mod Cycles
+pub mod Counts
+pub mod Inside
+pub mod OwnNames
+pub mod WellBuilt
+pub mod Names
+pub mod Ranking
+pub mod Ordering
+pub mod Climbing

@@ -1,0 +1,8 @@
+pub mod Access
+pub mod World
+pub mod Building
+pub mod Tables
+pub mod Faults
+pub mod Names
+pub mod Ranks
+pub mod Orders

@@ -1,7 +1,0 @@
-use Rattle.std.proofs.Common.{sym, ◌∙◌}
-use Rattle.world.specs.Building.IsFault.{inherits}
-use Rattle.world.proofs.build.check.Goals as goal
-
-pub returns-in-Some-clause-fault : goal.returns-in-Some-clause-fault
-returns-in-Some-clause-fault c =
-    λ ne. inherits c.in_ok-check_supers.ensures.has c.in_ok-ranks.ensures.none (sym c.in_ok-fault.ensures ∙ c.in-Some.is)

@@ -1,6 +1,0 @@
-use Rattle.world.specs.Names.{noted}
-use Rattle.world.proofs.Counts.{numbered}
-use Rattle.world.proofs.classes.Classes.of.Goals as goal
-
-pub invariant_of-result : goal.invariant_of-result
-invariant_of-result c = numbered c.in_ok-object.object c.args.files.items (noted c.in_ok-names.names) c.in_ok-object.ensures c.requires (cc) (rw c.deref-2.ensures.value at c.in_ok-names.ensures)

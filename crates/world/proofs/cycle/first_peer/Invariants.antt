@@ -1,6 +1,0 @@
-use Rattle.std.proofs.Common.{◌≡◌, ℕ, ◌<◌, false}
-use Rattle.world.specs.Ranks.{has_peer}
-use Rattle.world.proofs.cycle.first_peer.Given as goal
-
-abbrev pub invariant-loop-class : goal.invariant-loop-class
-invariant-loop-class l = (d : ℕ) → d < l.class → has_peer l.graph l.numbers d ≡ false

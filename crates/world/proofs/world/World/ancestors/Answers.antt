@@ -1,6 +1,0 @@
-use Rattle.world.proofs.Lines.{ancestors_by}
-use Rattle.world.proofs.world.World.ancestors.Goals as goal
-
-pub returns : goal.returns
-returns c =
-    rw (← c.self.view_is) (ancestors_by c.self.inside.classes c.self.inside.rows.items c.args.class c.in_ok-row.row c.in_ok-line.line.items c.self.invariant.are_rows c.in_ok-line.ensures (rw (c.deref.ensures.value, c.deref-2.ensures.value) at c.in_ok-row.ensures))

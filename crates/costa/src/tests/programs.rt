@@ -10,7 +10,8 @@ use std::test::*;
 /// Classes, parted by empty lines. C, D and Q extend the abstract class B, and E extends C. N makes objects, calls
 /// and throws. Each method of X but one shows a construct, or calls one that does. K has two default methods of one
 /// name. p/A has a method that q/B of another package doesn't override. W calls up to S, and a method of its own
-/// that is private.
+/// that is private. Of V's method, V1, which is abstract, V2, V4, as private, and V5, as static, have one of the same
+/// name and descriptor.
 const CLASSES: &str = "\
 class A java/lang/Object 21
 9 go (LB;)I 2a b6 m=B.m:()I ac
@@ -106,7 +107,25 @@ class W S 21
 1 m ()V b1
 1 up ()V 2a b7 m=S.m:()V b1
 2 own ()V 00 00 b1
-1 pr ()V 2a b6 m=W.own:()V b1";
+1 pr ()V 2a b6 m=W.own:()V b1
+
+class V java/lang/Object 21
+1 m ()I 04 ac
+9 go (LV;)I 2a b6 m=V.m:()I ac
+
+class V1 V 421
+1 m ()I 04 04 60 04 60 04 60 ac
+
+class V2 V1 21
+1 m ()I 04 04 60 ac
+
+class V3 V1 21
+
+class V4 V 21
+2 m ()I 00 00 00 00 00 00 04 ac
+
+class V5 V4 21
+9 m ()I 00 00 00 00 00 00 00 04 ac";
 
 /// A shelf with the files of these classes, each at its class's name.
 fn shelf_with(alloc: Global, classes: &str) -> Result<MemoryShelf, Fail> {
@@ -176,6 +195,11 @@ bound p/T.t:(Lp/A;)V p/T p/A q/B|unsupported p/T.t:(Lp/A;)V 1 package_override
 bound p/T.t:(Lp/A;)V p/T p/A|bound 4
 bound W.up:()V S W|bound 5
 bound W.pr:()V S W|bound 6
+bound V.go:(LV;)I V|bound 5
+bound V.go:(LV;)I V V1|bound 5
+bound V.go:(LV;)I V V1 V2|bound 7
+bound V.go:(LV;)I V V1 V2 V3|bound 11
+bound V.go:(LV;)I V V4 V5|bound 5
 bound java/lang/Object.<init>:()V S|bound 1";
 
 #[test]

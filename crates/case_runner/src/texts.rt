@@ -1,4 +1,4 @@
-//! Bytes and words in the texts of cases.
+//! Bytes, words and numbers in the texts of cases.
 
 use crate::fault::CaseError;
 use std::alloc::{AllocError, Global};
@@ -26,13 +26,29 @@ pub fn bytes_of(alloc: Global, digits: &str) -> Result<Vec<u8>, CaseError> {
     Ok(bytes)
 }
 
-/// The words of a line, parted by one space each: two spaces have an empty word between them.
-pub fn words_of(alloc: Global, line: &str) -> Result<Vec<String>, AllocError> {
+/// Adds the word, so many times as a number and a `*` before it say, and `''` as the empty word.
+fn push_word(alloc: Global, words: &mut Vec<String>, word: &str) -> Result<(), CaseError> {
+    let (count, word) = match word.split_once('*') {
+        Some((count, word)) => (count.parse::<u32>()?, word),
+        None => (1, word),
+    };
+    let word = if word == "''" { "" } else { word };
+    for _ in 0..count {
+        words.push(String::from_str(alloc, word)?)?;
+    }
+    Ok(())
+}
+
+/// The words of a line, parted by spaces. `''` is the empty word, and `N*WORD` stands for N words.
+pub fn words_of(alloc: Global, line: &str) -> Result<Vec<String>, CaseError> {
     let mut words = Vec::new(alloc);
-    if !line.is_empty() {
-        for word in line.split(' ') {
-            words.push(String::from_str(alloc, word)?)?;
-        }
+    for word in line.split_whitespace() {
+        push_word(alloc, &mut words, word)?;
     }
     Ok(words)
+}
+
+/// The bytes as a text, with U+FFFD for what is none.
+pub fn text_of(alloc: Global, bytes: &[u8]) -> Result<String, AllocError> {
+    String::from_utf8_lossy(alloc, bytes)
 }

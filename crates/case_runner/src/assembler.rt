@@ -1,7 +1,8 @@
 //! Class files of version 52 from text (JVMS 4). A class's first line is `class NAME SUPER FLAGS`, and the
-//! names of its interfaces. Each other line is a method, as `FLAGS NAME DESCRIPTOR`, and its code in words;
+//! names of its interfaces. Lines that begin with the word `field` come next, each with a field's
+//! `FLAGS NAME DESCRIPTOR`. Each other line is a method, as `FLAGS NAME DESCRIPTOR`, and its code in words;
 //! in place of code `-` stands for none. Flags are hexadecimal, and those of a method with an exception
-//! handler end in `!`.
+//! handler end in `!`. Behind a method's flags may stand `/` and max_locals, which is 6 else.
 //!
 //! A word of code is a byte in hexadecimal digits, or the index of a new entry of the constant pool: `c=NAME`
 //! of a class, `u=TEXT` of a text, `d=` of a double, and `f=`, `m=` and `n=`, each with `CLASS.NAME:DESCRIPTOR`,
@@ -106,15 +107,20 @@ impl Assembler {
         Ok(())
     }
 
-    /// An attribute Code with max_stack 4 and max_locals 6 (JVMS 4.7.3). A handler covers the first byte.
-    fn put_code(&mut self, mut code: Vec<u8>, has_handler: bool) -> Result<(), CaseError> {
+    /// An attribute Code with max_stack 4 (JVMS 4.7.3). A handler covers the first byte.
+    fn put_code(
+        &mut self,
+        mut code: Vec<u8>,
+        max_locals: u16,
+        has_handler: bool,
+    ) -> Result<(), CaseError> {
         let attribute = self.utf8("Code")?;
         let length = length_of(code.len())?;
         let handlers = u16::from(has_handler);
         let whole = length
             .wrapping_add(12)
             .wrapping_add(handlers.wrapping_mul(8));
-        self.put(&[1, attribute, 0, whole, 4, 6, 0, length])?;
+        self.put(&[1, attribute, 0, whole, 4, max_locals, 0, length])?;
         self.body.append(&mut code)?;
         self.put(&[handlers])?;
         if has_handler {
@@ -130,8 +136,9 @@ impl Assembler {
             return Err(CaseError::Malformed("a method has a descriptor"));
         };
         let bare = flags.as_str().trim_end_matches('!');
+        let (own, max_locals) = bare.split_once('/').unwrap_or((bare, "6"));
         let numbers = [
-            u16::from_str_radix(bare, 16)?,
+            u16::from_str_radix(own, 16)?,
             self.utf8(name.as_str())?,
             self.utf8(desc.as_str())?,
         ];
@@ -145,10 +152,50 @@ impl Assembler {
         for word in words {
             self.put_word(&mut code, word.as_str())?;
         }
-        self.put_code(code, flags.len() != bare.len())
+        let max_locals = u16::from_str_radix(max_locals, 10)?;
+        self.put_code(code, max_locals, flags.len() != bare.len())
     }
 
-    /// The flags, this class, its superclass and its interfaces, and that there are no fields.
+    fn put_methods(&mut self, alloc: Global, members: &str) -> Result<(), CaseError> {
+        let is_method = |line: &&str| !line.starts_with("field ");
+        let count = members.lines().filter(is_method).count();
+        self.put(&[length_of(count)?])?;
+        for line in members.lines() {
+            if !line.starts_with("field ") {
+                self.put_method(alloc, line)?;
+            }
+        }
+        Ok(())
+    }
+
+    /// A field without attributes (JVMS 4.5).
+    fn put_field(&mut self, alloc: Global, line: &str) -> Result<(), CaseError> {
+        let words = words_of(alloc, line)?;
+        let [_, flags, name, desc] = words.as_slice() else {
+            return Err(CaseError::Malformed("a field has a descriptor"));
+        };
+        let numbers = [
+            u16::from_str_radix(flags.as_str(), 16)?,
+            self.utf8(name.as_str())?,
+            self.utf8(desc.as_str())?,
+            0,
+        ];
+        Ok(self.put(&numbers)?)
+    }
+
+    fn put_fields(&mut self, alloc: Global, members: &str) -> Result<(), CaseError> {
+        let is_field = |line: &&str| line.starts_with("field ");
+        let count = members.lines().filter(is_field).count();
+        self.put(&[length_of(count)?])?;
+        for line in members.lines() {
+            if line.starts_with("field ") {
+                self.put_field(alloc, line)?;
+            }
+        }
+        Ok(())
+    }
+
+    /// The flags, this class, its superclass and its interfaces.
     fn put_head(&mut self, alloc: Global, line: &str) -> Result<(), CaseError> {
         let words = words_of(alloc, line)?;
         let [_, name, superclass, flags, interfaces @ ..] = words.as_slice() else {
@@ -165,7 +212,6 @@ impl Assembler {
             let index = self.naming(7, interface.as_str())?;
             self.put(&[index])?;
         }
-        self.put(&[0])?;
         Ok(())
     }
 }
@@ -177,12 +223,10 @@ pub fn assembled(alloc: Global, text: &str) -> Result<Vec<u8>, CaseError> {
         next: 1,
         body: Vec::new(alloc),
     };
-    let (head, methods) = text.split_once('\n').unwrap_or((text, ""));
+    let (head, members) = text.split_once('\n').unwrap_or((text, ""));
     class.put_head(alloc, head)?;
-    class.put(&[length_of(methods.lines().count())?])?;
-    for line in methods.lines() {
-        class.put_method(alloc, line)?;
-    }
+    class.put_fields(alloc, members)?;
+    class.put_methods(alloc, members)?;
     class.put(&[0])?;
     let mut file = Vec::from_slice(alloc, b"\xca\xfe\xba\xbe\0\0\0\x34")?;
     file.extend_from_slice(&class.next.to_be_bytes())?;

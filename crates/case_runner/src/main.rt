@@ -3,10 +3,13 @@
 #![tactic(auto)]
 
 mod assembler;
+mod entering;
 mod fault;
+mod given;
 mod subjects;
 mod table;
 mod texts;
+mod values;
 
 use std::alloc::Global;
 use std::rt::{Env, Files};

@@ -1,5 +1,5 @@
 -- Files and bytes in memory, where some calls are made to fail.
-use Rattle.std.specs.Prelude.{◌+◌, ◌-◌, ◌^◌, ◌==◌, ℕ, List, [], ◌∷◌, ◌++◌, length, take, Option, Some, None, Result, Ok, Err, min, nat_lt, if◌then◌else◌}
+use Rattle.std.specs.Prelude.{◌==◌, ℕ, List, [], ◌∷◌, length, take, Option, Some, None, Result, Ok, Err, nat_lt, if◌then◌else◌}
 use Rattle.std.specs.List.{list_any}
 use Rattle.ports.specs.declared.shelf.Fetch.{Fetch}
 use Rattle.ports.specs.declared.shelf.Fetch.TheVariants.{Failed, TooLong}

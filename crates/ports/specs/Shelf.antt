@@ -1,5 +1,5 @@
 -- What a shelf of files means.
-use Rattle.std.specs.Prelude.{◌≡◌, ◌⊎◌, ◌+◌, ◌-◌, ◌<◌, ◌≤◌, ◌^◌, ℕ, Bool, List, [], ◌∷◌, length, Option, Some, None, nat_eq, if◌then◌else◌, MatchOption, min}
+use Rattle.std.specs.Prelude.{◌≡◌, ◌⊎◌, ◌+◌, ◌-◌, ◌<◌, ◌^◌, ℕ, Bool, List, [], ◌∷◌, length, Option, Some, None, nat_eq, if◌then◌else◌, MatchOption, min}
 use lib.Pointwise.{pointwise}
 
 -- a count that never falls, and the path of the last call that raised it

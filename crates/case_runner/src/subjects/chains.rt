@@ -1,8 +1,8 @@
 //! What the program answers to the first method of a chain of callers, each of which calls the next, once or twice.
 
-use crate::fault::CaseError;
 use crate::subjects::programs::{reported, shelf_with};
-use crate::texts::words_of;
+use case_texts::CaseError;
+use case_texts::texts::words_of;
 use ports::MemorySink;
 use std::alloc::{AllocError, Global};
 

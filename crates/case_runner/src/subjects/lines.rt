@@ -1,7 +1,7 @@
 //! What is appended to a line of a report: parts, with ` | ` between each two.
 
-use crate::fault::CaseError;
-use crate::texts::{bytes_of, text_of};
+use case_texts::CaseError;
+use case_texts::texts::{bytes_of, text_of};
 use class_pool::{Target, Text};
 use std::alloc::Global;
 use text_out::Line;

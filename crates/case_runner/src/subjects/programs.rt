@@ -1,10 +1,10 @@
 //! What the program answers to the words of a command line, on the files of classes that are given as text, each at its
 //! class's name.
 
-use crate::assembler::assembled;
-use crate::fault::CaseError;
-use crate::texts::{text_of, words_of};
 use analyser::{costa, exit_code};
+use case_texts::CaseError;
+use case_texts::assembler::assembled;
+use case_texts::texts::{text_of, words_of};
 use class_pool::{Bytes, Sequence, Text};
 use ports::{MemoryShelf, MemorySink};
 use std::alloc::Global;

@@ -1,8 +1,8 @@
 //! What the program answers to words, on files that are edits of one that is given, with an outside that fails.
 
-use crate::fault::CaseError;
 use crate::subjects::programs::reported;
-use crate::texts::{bytes_of, words_of};
+use case_texts::CaseError;
+use case_texts::texts::{bytes_of, words_of};
 use class_pool::{Bytes, Sequence, Text};
 use ports::{MemoryShelf, MemorySink};
 use std::alloc::{AllocError, Global};

@@ -1,7 +1,7 @@
 //! What a shelf in memory answers to fetches, and what it then counts.
 
-use crate::fault::CaseError;
-use crate::texts::text_of;
+use case_texts::CaseError;
+use case_texts::texts::text_of;
 use class_pool::{Bytes, Sequence, Text};
 use ports::{Blame, Fetch, MemoryShelf, Shelf};
 use std::alloc::{AllocError, Global};

@@ -1,7 +1,7 @@
 //! What a sink in memory takes, and what it then counts.
 
-use crate::fault::CaseError;
-use crate::texts::text_of;
+use case_texts::CaseError;
+use case_texts::texts::text_of;
 use ports::{MemorySink, Put, Sink};
 use std::alloc::{AllocError, Global};
 

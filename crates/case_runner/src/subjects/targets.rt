@@ -1,7 +1,7 @@
 //! The method that a word names: its class, its name and its descriptor.
 
-use crate::fault::CaseError;
-use crate::texts::text_of;
+use case_texts::CaseError;
+use case_texts::texts::text_of;
 use class_pool::Target;
 use cost_words::{Command, WordFault, WordKind, is_method_text, read};
 use std::alloc::{AllocError, Global};

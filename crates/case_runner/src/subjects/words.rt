@@ -1,8 +1,8 @@
 //! What the words of a command line ask for, or which of them is wrong first.
 
-use crate::fault::CaseError;
 use crate::subjects::targets::shown_target;
-use crate::texts::words_of;
+use case_texts::CaseError;
+use case_texts::texts::words_of;
 use cost_words::{Command, Cost, PathWord, Word, WordFault, WordKind, read};
 use std::alloc::{AllocError, Global};
 

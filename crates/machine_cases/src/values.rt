@@ -59,10 +59,6 @@ pub fn word_or_none(alloc: Global, value: Option<Value>) -> Result<String, Alloc
     }
 }
 
-fn field(class: u32, member: u32, value: Value) -> (MemberId, Value) {
-    (MemberId { class, member }, value)
-}
-
 /// Values for the first fields of a class, two at most.
 fn fields_of(
     alloc: Global,
@@ -71,12 +67,12 @@ fn fields_of(
 ) -> Result<Vec<(MemberId, Value)>, CaseError>
     ensures { IfOk result (λ v. AllPairs (λ f g. f.0 ≢ g.0) v.items) }
 {
+    let first = MemberId { class, member: 0 };
+    let second = MemberId { class, member: 1 };
     match values {
         [] => Ok(Vec::new(alloc)),
-        [first] => Ok([field(class, 0, *first)].to_vec(alloc)?),
-        [first, second] => {
-            Ok([field(class, 0, *first), field(class, 1, *second)].to_vec(alloc)?)
-        }
+        [one] => Ok([(first, *one)].to_vec(alloc)?),
+        [one, two] => Ok([(first, *one), (second, *two)].to_vec(alloc)?),
         _ => Err(CaseError::Malformed("too many fields")),
     }
 }

@@ -8,7 +8,7 @@ use std::alloc::Global;
 use std::marker::Model;
 
 /// Files in memory, of which some calls fail.
-#[derive(Debug, Drop)]
+#[derive(Drop)]
 pub struct MemoryShelf {
     alloc: Global,
     files: Vec<(Text, Bytes)>,

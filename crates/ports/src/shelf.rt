@@ -9,7 +9,7 @@ use std::marker::Model;
 pub const LONGEST_FILE: usize = 16_777_216;
 
 /// Why a file was not fetched.
-#[derive(Clone, Copy, Debug, PartialEq, Eq)]
+#[derive(Clone, Copy)]
 pub enum Fetch {
     /// The outside failed.
     Failed,
@@ -36,7 +36,7 @@ impl<T: Drop> From<AllocFailed<T>> for Fetch {
 }
 
 /// A count that never falls, and the path of the last call that raised it.
-#[derive(Debug, Drop)]
+#[derive(Drop)]
 pub struct Blame {
     count: u64,
     path: Vec<u8>,

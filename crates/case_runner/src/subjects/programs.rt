@@ -20,7 +20,7 @@ pub fn shelf_with(alloc: Global, classes: &str) -> Result<MemoryShelf, CaseError
     Ok(MemoryShelf::new(alloc, files, Vec::new(alloc)))
 }
 
-/// The exit status and the report on these words.
+/// The exit status and the report on these words. A report that doesn't end its line has a `|` behind it.
 pub fn reported(
     alloc: Global,
     words: &[String],
@@ -29,11 +29,11 @@ pub fn reported(
 ) -> Result<String, CaseError> {
     let status = costa(alloc, words, shelf, &mut out);
     let text = text_of(alloc, out.bytes())?;
-    let line = match text.as_str().strip_suffix('\n') {
-        Some(line) => line,
-        None => text.as_str(),
+    let (line, end) = match text.as_str().strip_suffix('\n') {
+        Some(line) => (line, ""),
+        None => (text.as_str(), "|"),
     };
-    Ok(format!(in alloc; "{} {line}", exit_code(&status))?)
+    Ok(format!(in alloc; "{} {line}{end}", exit_code(&status))?)
 }
 
 pub fn answer(alloc: Global, given: &str, input: &str) -> Result<String, CaseError> {

@@ -2,15 +2,15 @@
 //! bytes, from which number of them on; `class`, `fields` and `method N` show what is read of it, and `long N` a long of
 //! its pool; `written` names the file that has the bytes that are written of the class. A file is named and may be edited.
 
-use crate::edits::{edited_file, name_of as file_with};
+use crate::edits::{edited_file, name_with};
+use crate::pools::name_of;
 use crate::summaries::Summary;
 use case_texts::CaseError;
-use class_pool::{PoolFault, Text};
+use class_pool::PoolFault;
 use class_reader::{Class, ClassFault, ClassRecord, Code, Handler, Method, read};
 use class_writer::write;
 use std::alloc::{AllocError, Global};
 use std::fmt::Write;
-use std::str;
 
 /// How many bytes a table's file has at most.
 const MOST: usize = 65535;
@@ -57,10 +57,6 @@ fn fronts_shown(alloc: Global, bytes: &[u8]) -> Result<String, AllocError> {
     }
     summary.push(bytes.len(), front_shown(alloc, bytes)?)?;
     Ok(summary.into_text())
-}
-
-fn name_of(text: &Text) -> &str {
-    str::from_utf8(text.as_slice()).unwrap_or("?")
 }
 
 /// The version, the flags, and the names of the class, its superclass and its interfaces.
@@ -131,7 +127,7 @@ fn long_shown(alloc: Global, class: &ClassRecord, index: u16) -> Result<String, 
 fn written(alloc: Global, given: &str, class: &Class) -> Result<String, CaseError> {
     match write(alloc, class) {
         Ok(bytes) => {
-            let name = file_with(alloc, given, bytes.as_slice())?;
+            let name = name_with(alloc, given, bytes.as_slice())?;
             Ok(String::from_str(alloc, name)?)
         }
         Err(fault) => Ok(format!(in alloc; "{fault:?}")?),

@@ -1,6 +1,6 @@
 //! Files that a table gives in hexadecimal digits, and edits of them. Each line that is given names a file and has bytes
-//! that come next in it, or is a comment behind `# `; a file that no line names is empty. An edit is an offset, how many bytes it takes away there
-//! and what it puts there; edits are parted by `, `.
+//! that come next in it, or is a comment behind `# `; a file that no line names is empty. An edit is an offset, how many
+//! bytes it takes away there and what it puts there; edits are parted by `, `.
 
 use case_texts::CaseError;
 use case_texts::texts::bytes_of;
@@ -20,7 +20,7 @@ pub fn file_of(alloc: Global, given: &str, name: &str) -> Result<Vec<u8>, CaseEr
 }
 
 /// The name of the first file that has these bytes, and `other` where none has.
-pub fn name_of<'a>(alloc: Global, given: &'a str, bytes: &[u8]) -> Result<&'a str, CaseError> {
+pub fn name_with<'a>(alloc: Global, given: &'a str, bytes: &[u8]) -> Result<&'a str, CaseError> {
     for line in given.lines() {
         if let Some((name, _)) = line.split_once(' ')
             && name != "#"

@@ -18,16 +18,12 @@ pub fn decode_in(code: &[u8], pc: u32) -> Result<Instr, OpFault> {
     }
 }
 
-fn show(out: &mut String, found: Result<Instr, OpFault>) -> Result<(), AllocError> {
+fn show(out: &mut String, found: &Result<Instr, OpFault>) -> Result<(), AllocError> {
     match found {
-        Ok(
-            Instr {
-                op,
-                wide,
-                len,
-                args,
-            },
-        ) => write!(out, "{} {wide} {len} {args:?}", op.number()),
+        Ok(instr) => {
+            let (wide, len, args) = (instr.wide, instr.len, instr.args);
+            write!(out, "{} {wide} {len} {args:?}", instr.op.number())
+        }
         Err(fault) => write!(out, "{fault:?}"),
     }
 }
@@ -38,7 +34,7 @@ fn show_fronts(out: &mut String, code: &[u8], pc: u32) -> Result<(), AllocError>
         let found = decode_in(&code[..end], pc);
         if found != Err(OpFault::Short { pc }) {
             write!(out, "; with {end} bytes ")?;
-            show(out, found)?;
+            show(out, &found)?;
         }
     }
     Ok(())
@@ -47,8 +43,8 @@ fn show_fronts(out: &mut String, code: &[u8], pc: u32) -> Result<(), AllocError>
 fn instruction_shown(alloc: Global, code: &[u8], pc: u32) -> Result<String, AllocError> {
     let found = decode_in(code, pc);
     let mut out = String::new(alloc);
-    show(&mut out, found)?;
-    if let Ok(instr) = found {
+    show(&mut out, &found)?;
+    if let Ok(instr) = &found {
         show_fronts(&mut out, code, pc)?;
         let end = u64::from(pc).wrapping_add(u64::from(instr.len));
         if end != code.len() as u64 {
@@ -66,7 +62,7 @@ fn widened_shown(alloc: Global) -> Result<String, AllocError> {
         if found == Err(OpFault::UnknownOp { pc: 0, byte }) {
             unknown = unknown.wrapping_add(1);
         } else {
-            show(&mut out, found)?;
+            show(&mut out, &found)?;
             out.push_str("; ")?;
         }
     }

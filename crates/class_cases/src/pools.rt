@@ -34,10 +34,10 @@ fn read_shown(alloc: Global, bytes: &[u8]) -> Result<String, AllocError> {
 
 /// What becomes of the first bytes: `short` where they end too early, and are said to end where they do.
 fn front_shown(alloc: Global, front: &[u8]) -> Result<String, AllocError> {
-    let end = (front.len() as u32).wrapping_add(8);
+    let end = front.len().wrapping_add(8);
     match pool_in(alloc, front) {
         Ok(_) => format!(in alloc; "read"),
-        Err(PoolFault::Short { at }) if at == end => format!(in alloc; "short"),
+        Err(PoolFault::Short { at }) if at as usize == end => format!(in alloc; "short"),
         Err(fault) => format!(in alloc; "{fault:?}"),
     }
 }
@@ -52,7 +52,8 @@ fn fronts_shown(alloc: Global, bytes: &[u8]) -> Result<String, AllocError> {
     Ok(summary.into_text())
 }
 
-fn name_of(text: &Text) -> &str {
+/// The text as text, and `?` where it has bytes that are none.
+pub fn name_of(text: &Text) -> &str {
     str::from_utf8(text.as_slice()).unwrap_or("?")
 }
 

@@ -8,3 +8,5 @@ pub mod Exact
 pub mod Halves
 pub mod Order
 pub mod Field
+pub mod Ordered
+pub mod Wholes

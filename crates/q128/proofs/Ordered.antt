@@ -1,9 +1,9 @@
 -- Fractions are an ordered field.
-use Rattle.std.specs.Prelude.{◌≡◌, ◌⊎◌, ◌↔◌, ℕ, zero, suc, ◌+◌, ◌*◌, ℤ, pos, negsuc, neg_ℤ, ◌+ℤ◌, ◌-ℤ◌, ◌*ℤ◌, ◌≤ℤ◌}
+use Rattle.std.specs.Prelude.{◌≡◌, ◌⊎◌, ℕ, zero, suc, ◌*◌, ℤ, pos, negsuc, neg_ℤ, ◌+ℤ◌, ◌*ℤ◌, ◌≤ℤ◌}
 use Rattle.std.proofs.Common.{arith, refl, sym, ap, ◌∙◌, subst, inl, inr}
 use Rattle.std.proofs.lemmas.Int.{ints, by_lt_z}
 use Rattle.q128.specs.Fraction.{Fraction, den_of, whole, IsSame, IsAtMost, plus, negative, minus, times, inverse, turned, IsQuotient}
-use Rattle.q128.specs.Laws.{IsEquivalence, IsMonoid, IsField, IsFieldOrder, AreOrderedField}
+use Rattle.q128.specs.Laws.{IsField, IsFieldOrder, AreOrderedField}
 use Rattle.q128.proofs.Ring.{ring, is_dif, pos-dif, dif-same, *ℤ-swap, *ℤ-mono, *ℤ-mono_back, neg_ℤ-*ℤ}
 use Rattle.q128.proofs.Field.{same_refl, same_sym, same_trans, plus-same, times-same, plus_comm, plus_assoc, plus-zero, times_comm, times_assoc, times_plus, common_den}
 

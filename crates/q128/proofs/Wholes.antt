@@ -1,13 +1,11 @@
 -- What the rule makes of whole numbers.
-use Rattle.std.specs.Prelude.{◌≡◌, ◌≢◌, ℕ, zero, suc, ◌/◌, ◌*◌, ◌<◌, ◌≤◌, ◌^◌, ℤ, pos, negsuc, neg_ℤ, ◌+ℤ◌, ◌-ℤ◌, ◌*ℤ◌, int_div, unsigned_abs, Option, Some, None}
-use Rattle.std.specs.Int.{◌∣◌, IsGcd}
+use Rattle.std.specs.Prelude.{◌≡◌, ◌≢◌, ℕ, zero, suc, ◌/◌, ◌<◌, ◌≤◌, ◌^◌, ℤ, pos, negsuc, neg_ℤ, ◌+ℤ◌, ◌-ℤ◌, ◌*ℤ◌, int_div, unsigned_abs, Option, Some, None}
 use Rattle.std.specs.Int.Signed.{mag}
-use Rattle.std.specs.Option.{option_map}
-use Rattle.std.proofs.Common.{arith, refl, sym, ap, ◌∙◌, subst, ⊎_elim, lit<}
+use Rattle.std.proofs.Common.{arith, refl, ap, ⊎_elim, lit<}
 use Rattle.std.proofs.Math.Nat.{dvd_refl, one-dvd}
 use Rattle.std.proofs.lemmas.Int.{ints}
 use Rattle.std.proofs.lemmas.Bool.{cases_lt}
-use Rattle.q128.specs.Fraction.{Fraction, whole}
+use Rattle.q128.specs.Fraction.{whole}
 use Rattle.q128.specs.Rule.{◌>>=◌, gcd, narrow, narrow_natural, made, add_parts, add_rule, negate_rule, sub_rule, mul_parts, mul_rule}
 use Rattle.q128.specs.Laws.{IsNarrow, narrow_whole, RuleOnWholes}
 use Rattle.q128.proofs.Divisors.{gcd-is}

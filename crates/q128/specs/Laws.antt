@@ -1,5 +1,5 @@
 -- Laws of fractions: those of an ordered field (van der Waerden, Algebra, on rings and fields and on ordered fields).
-use Rattle.std.specs.Prelude.{◌≡◌, ◌≢◌, ◌⊎◌, ◌↔◌, ℕ, ◌<◌, ◌^◌, ℤ, pos, neg_ℤ, ◌+ℤ◌, ◌-ℤ◌, ◌*ℤ◌, ◌≤ℤ◌, Option, None}
+use Rattle.std.specs.Prelude.{◌≡◌, ◌≢◌, ◌⊎◌, ◌↔◌, ◌<◌, ◌^◌, ℤ, pos, neg_ℤ, ◌+ℤ◌, ◌-ℤ◌, ◌*ℤ◌, ◌≤ℤ◌, Option, None}
 use Rattle.std.specs.Int.Signed.{mag}
 use Rattle.std.specs.Option.{option_map}
 use Rattle.q128.specs.Fraction.{Fraction, whole, IsSame, IsAtMost, plus, negative, minus, times, inverse, IsQuotient}

@@ -14,7 +14,7 @@ times-one x = rw (common_den x (whole (pos 1))) (is x.num (suc x.den_less_one))
     is : (n : ℤ) (d : ℕ) → (n *ℤ pos 1) *ℤ pos d ≡ n *ℤ (pos d *ℤ pos 1)
     is n d = rw (← is_dif n) (simp (ring, pos-dif) (dif-same _ _ _ _ (omega arith)))
 
-minus_is : (x y : Fraction) → minus x y ≡ plus x (negative y)
+pub minus_is : (x y : Fraction) → minus x y ≡ plus x (negative y)
 minus_is x y = ap (λ n. record { num = x.num *ℤ den_of y +ℤ n; den_less_one = (minus x y).den_less_one }) (sym (neg_ℤ-*ℤ y.num (den_of x)))
 
 plus-negative : (x : Fraction) → IsSame (plus x (negative x)) (whole (pos 0))
@@ -169,3 +169,13 @@ are_ordered_field = record {
   quotients = λ x y z some. (quotient_there x y z some, quotient_back x y z some);
   signs = λ x. (sign_there x, sign_back x);
 }
+
+-- ---- negatives
+pub negative-same : (x y : Fraction) → IsSame x y → IsSame (negative x) (negative y)
+negative-same x y e = neg_ℤ-*ℤ x.num (den_of y) ∙ ap neg_ℤ e ∙ sym (neg_ℤ-*ℤ y.num (den_of x))
+
+pub negative-times : (k : ℤ) (x : Fraction) → IsSame (times (whole (neg_ℤ k)) x) (negative (times (whole k) x))
+negative-times k x = ap (λ n. n *ℤ den_of (times (whole k) x)) (neg_ℤ-*ℤ k x.num)
+
+pub one-times : (x : Fraction) → IsSame (times (whole (pos 1)) x) x
+one-times x = same_trans (times (whole (pos 1)) x) (times x (whole (pos 1))) x (times_comm (whole (pos 1)) x) (times-one x)

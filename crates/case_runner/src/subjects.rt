@@ -1,0 +1,16 @@
+//! What cases are about, each subject in a module of its own.
+
+mod programs;
+mod utf8;
+
+use crate::fault::CaseError;
+use std::alloc::Global;
+
+/// What the subject answers to the input of a case.
+pub fn answer(alloc: Global, subject: &str, given: &str, input: &str) -> Result<String, CaseError> {
+    match subject {
+        "programs" => programs::answer(alloc, given, input),
+        "utf8" => utf8::answer(alloc, given, input),
+        _ => Err(CaseError::Malformed("no such subject")),
+    }
+}

@@ -20,6 +20,3 @@ pub use point::{Point, holds};
 pub use row::{Row, Transition};
 pub use sequence::Sequence;
 pub use sums::{combine, reaches};
-
-#[cfg(test)]
-mod tests;

@@ -3,16 +3,16 @@ use Rattle.std.specs.Prelude.{◌≡◌, ℤ, pos, negsuc, neg_ℤ, ◌+ℤ◌, 
 use Rattle.std.proofs.Common.{arith, sym, ap, ◌∙◌, subst, get_or}
 use Rattle.std.proofs.lemmas.Int.{ints}
 use Rattle.std.proofs.Math.IntN.{*ℤ_comm}
-use Rattle.q128.specs.Fraction.{Fraction, whole, IsSame, plus, negative, minus, times}
+use Rattle.q128.specs.Fraction.{Fraction, whole, IsSame, IsAtMost, plus, negative, minus, times}
 use Rattle.q128.proofs.Ring.{neg_ℤ-*ℤ}
-use Rattle.q128.proofs.Field.{same_refl, same_sym, same_trans, plus-same, plus_assoc}
+use Rattle.q128.proofs.Field.{same_refl, same_sym, same_trans, plus-same, plus_assoc, nonneg-same}
 use Rattle.q128.proofs.Ordered.{minus_is, negative-same, negative-times, one-times}
 use Rattle.lin_rows.specs.Linear.{Linear, nothing}
 use Rattle.lin_rows.specs.Points.{dot, value_at, whole_sum, whole_value}
 use Rattle.lin_rows.specs.Transitions.{lin_plus, lin_times, lin_constant, lin_sum, after, drop_of, next_wholes, next_at}
-use Rattle.lin_rows.specs.Laws.{StepOnWholes, StepAt, ProvedFalls}
+use Rattle.lin_rows.specs.Laws.{StepOnWholes, StepAt, ProvedFalls, ProvedFallsAtWhole}
 use Rattle.lin_rows.proofs.Dots.{dot-zero}
-use Rattle.lin_rows.proofs.Sound.{proved_holds_at_whole}
+use Rattle.lin_rows.proofs.Sound.{proved_holds, proved_holds_at_whole}
 use Rattle.lin_rows.proofs.Expressions.{whole_sum-zero, whole_value-plus, whole_value-times, whole_value-constant, value_at-plus, value_at-times, value_at-constant, value_at-nothing}
 
 -- ---- whole numbers
@@ -46,13 +46,13 @@ whole_drop f next d zs =
 pub step_on_wholes : (f : Linear) (next : List Linear) (d : ℤ) (zs : List ℤ) → StepOnWholes f next d zs
 step_on_wholes f next d zs = record { moved = whole_after f next zs; fallen = whole_drop f next d zs }
 
-pub proved_falls : ProvedFalls
-proved_falls step m f d before now p s =
+pub proved_falls_at_whole : ProvedFallsAtWhole
+proved_falls_at_whole step m f d before now p s =
     let N = whole_value f (next_wholes step.next before) in
     let held = (proved_holds_at_whole _ m (drop_of f step.next d) before p s.rows).not_negative in
     let low : pos 0 ≤ℤ ((whole_value f before -ℤ N) -ℤ d) = subst (λ k. pos 0 ≤ℤ k) (whole_drop f step.next d before) held in
-    let fall : (N +ℤ d) ≤ℤ whole_value f before = omega (arith, ints) in
-    subst (λ (ys : List ℤ). (whole_value f ys +ℤ d) ≤ℤ whole_value f before) (sym s.next) fall
+    let fall : d ≤ℤ (whole_value f before -ℤ N) = omega (arith, ints) in
+    subst (λ (ys : List ℤ). d ≤ℤ (whole_value f before -ℤ whole_value f ys)) (sym s.next) fall
 
 -- ---- points and rays
 lin_sum_at : (cs : List ℤ) (es : List Linear) (t : Fraction) (v : List Fraction) → IsSame (value_at (lin_sum cs es) t v) (dot (λ i. whole (get_or cs i (pos 0))) (next_at es t v))
@@ -110,3 +110,16 @@ drop_at f next d t v =
 
 pub step_at : (f : Linear) (next : List Linear) (d : ℤ) (t : Fraction) (v : List Fraction) → StepAt f next d t v
 step_at f next d t v = record { moved = after_at f next t v; fallen = drop_at f next d t v }
+
+-- what isn't below 0 when y is taken away is at least y
+at_most_minus : (x y : Fraction) → pos 0 ≤ℤ (minus x y).num → IsAtMost y x
+at_most_minus x y h = omega (arith, ints)
+
+pub proved_falls : ProvedFalls
+proved_falls step m f d t before now p h s =
+    let all = drop_of f step.next d in
+    let D = times (whole d) t in
+    let fall = minus (value_at f t before) (value_at f t (next_at step.next t before)) in
+    let held = (proved_holds _ m all t before p h s.rows).not_negative in
+    let low : pos 0 ≤ℤ (minus fall D).num = nonneg-same (value_at all t before) (minus fall D) (drop_at f step.next d t before) held in
+    subst (λ (v : List Fraction). IsAtMost D (minus (value_at f t before) (value_at f t v))) (sym s.next) (at_most_minus fall D low)

@@ -1,13 +1,13 @@
 -- What proving is good for, what steps do to expressions, and that room is free.
 use Rattle.std.specs.Prelude.{◌≡◌, ℕ, ◌+◌, ℤ, pos, ◌+ℤ◌, ◌-ℤ◌, ◌≤ℤ◌, ◌<ℤ◌, List, ◌++◌, replicate, Result, Ok, Err}
 use Rattle.q128.specs.declared.q.TooWide.{TooWide}
-use Rattle.q128.specs.Fraction.{Fraction, whole, IsSame, minus, times}
+use Rattle.q128.specs.Fraction.{Fraction, whole, IsSame, IsAtMost, minus, times}
 use Rattle.lin_rows.specs.declared.row.Transition.{Transition}
 use Rattle.lin_rows.specs.Linear.{Linear}
 use Rattle.lin_rows.specs.Points.{value_at, whole_value, HoldsAt, RowsHoldAt, HoldsAtWhole, RowsHoldAtWhole}
 use Rattle.lin_rows.specs.Combining.{Combination, zeros, rows_added}
 use Rattle.lin_rows.specs.Rows.{lins, HaveRoom}
-use Rattle.lin_rows.specs.Transitions.{after, drop_of, next_wholes, next_at, StepsWhole}
+use Rattle.lin_rows.specs.Transitions.{after, drop_of, next_wholes, next_at, StepsWhole, StepsAt}
 use Rattle.lin_rows.specs.Proving.{Multipliers, Reaches, Contradicts, Proves}
 
 -- a reached row holds at each point and ray at which the rows hold
@@ -38,9 +38,13 @@ pub record StepAt (f : Linear) (next : List Linear) (d : ℤ) (t : Fraction) (v 
   pub moved : IsSame (value_at (after f next) t v) (value_at f t (next_at next t v))
   pub fallen : IsSame (value_at (drop_of f next d) t v) (minus (minus (value_at f t v) (value_at f t (next_at next t v))) (times (whole d) t))
 
--- where a step's rows prove the drop, f falls by d at least with each step between whole numbers
+-- where a step's rows prove the drop, f falls by d at least with each step from a point
 abbrev pub ProvedFalls : Type 0
-ProvedFalls = (step : Transition) (m : Multipliers) (f : Linear) (d : ℤ) (before now : List ℤ) → Proves (lins step.rows) m (drop_of f step.next d) → StepsWhole step before now → (whole_value f now +ℤ d) ≤ℤ whole_value f before
+ProvedFalls = (step : Transition) (m : Multipliers) (f : Linear) (d : ℤ) (t : Fraction) (before now : List Fraction) → Proves (lins step.rows) m (drop_of f step.next d) → pos 0 <ℤ t.num → StepsAt step t before now → IsAtMost (times (whole d) t) (minus (value_at f t before) (value_at f t now))
+
+-- and from whole numbers
+abbrev pub ProvedFallsAtWhole : Type 0
+ProvedFallsAtWhole = (step : Transition) (m : Multipliers) (f : Linear) (d : ℤ) (before now : List ℤ) → Proves (lins step.rows) m (drop_of f step.next d) → StepsWhole step before now → d ≤ℤ (whole_value f before -ℤ whole_value f now)
 
 -- ---- room
 -- a sum with so many places more, all of them 0

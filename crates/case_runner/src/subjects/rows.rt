@@ -109,7 +109,8 @@ fn reached(
     goal: &Row,
 ) -> Result<String, CaseError> {
     let mut scratch = Comb::room(alloc, 3)?;
-    if !m.are_rows_of(rows.len())
+    if rows.is_empty()
+        || !m.are_rows_of(rows.len())
         || !scratch.has_room(rows.as_slice())
         || goal.lin.len() > scratch.len()
     {

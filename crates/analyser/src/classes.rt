@@ -13,7 +13,7 @@ use class_reader::{Class, ClassFault, read};
 use std::alloc::{AllocError, AllocFailed, Global};
 
 /// Why not all files were read.
-#[derive(Clone, Copy, Debug)]
+#[derive(Clone, Copy)]
 pub enum Unread {
     /// The file that this word names is the first that is no class, and this is its first fault.
     Bad {

@@ -13,14 +13,14 @@ use std::alloc::{AllocError, AllocFailed, Global};
 pub(crate) const MOST_BYTES: usize = 268_435_456;
 
 /// A file that was fetched, and the index of the word that names it.
-#[derive(Debug, Drop)]
+#[derive(Drop)]
 pub struct File {
     pub word: u64,
     pub bytes: Bytes,
 }
 
 /// Why not all files were fetched.
-#[derive(Clone, Copy, Debug)]
+#[derive(Clone, Copy)]
 pub enum Stop {
     /// The file that this word names could not be fetched.
     Failed { word: u64 },

@@ -3,7 +3,7 @@ use class_pool::Target;
 use op_table::Construct;
 
 /// What a limit counts.
-#[derive(Clone, Copy, Debug, PartialEq, Eq)]
+#[derive(Clone, Copy)]
 pub enum LimitKind {
     /// The files that are named: 1,024 at most.
     Files,
@@ -16,7 +16,7 @@ pub enum LimitKind {
 }
 
 /// What is wrong first with a file that is no class.
-#[derive(Clone, Copy, Debug, PartialEq, Eq)]
+#[derive(Clone, Copy)]
 pub enum FaultKind {
     /// It doesn't begin with CAFEBABE.
     Magic,
@@ -43,7 +43,7 @@ pub enum FaultKind {
 }
 
 /// What the call answers.
-#[derive(Debug, Drop)]
+#[derive(Drop)]
 pub enum Status {
     /// The cost of the method is at most so much.
     Bound(u128),

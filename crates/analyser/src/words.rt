@@ -8,7 +8,7 @@ use cost_words::{Command, Cost, PathWord, WordFault, read};
 use std::alloc::{AllocError, Global};
 
 /// What is asked for: a bound of this method, in the class files at these paths.
-#[derive(Debug, Drop)]
+#[derive(Drop)]
 pub struct Request {
     pub target: Target,
     pub files: Sequence<PathWord>,

@@ -1,12 +1,11 @@
 //! Runs tables of cases through the public calls of the crates, and prints each case whose answer isn't the wanted one.
-//! Each word is the path of a table without its ending `.cases`; its last part names the subject.
+//! Each word is the path of a table without its ending `.cases`; its last part names the subject. What files and
+//! writers of the system come to is printed behind them.
 #![tactic(auto)]
 
-mod assembler;
-mod fault;
+mod edge;
 mod subjects;
 mod table;
-mod texts;
 
 use std::alloc::Global;
 use std::rt::{Env, Files};
@@ -33,5 +32,6 @@ fn main(rt: HostRuntime) -> anyhow::Result<()> {
         let report = report_of(&rt, name.as_str())?;
         println!(rt; "{report}")?;
     }
+    print!(rt; "{}", edge::report(&rt)?)?;
     Ok(())
 }

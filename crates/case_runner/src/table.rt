@@ -1,8 +1,8 @@
 //! A table is a text: lines that each case is given, a line `cases`, and a line for each case, `INPUT => WANTED`. Without
 //! a line `cases` nothing is given. Empty lines, and lines that begin with `#`, are passed over.
 
-use crate::fault::CaseError;
 use crate::subjects;
+use case_texts::CaseError;
 use std::alloc::{AllocError, Global};
 
 /// The input and the wanted answer of a line, where it is a case.

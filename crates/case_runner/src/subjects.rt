@@ -44,5 +44,8 @@ pub fn answer(alloc: Global, subject: &str, given: &str, input: &str) -> Result<
     if let Some(text) = machine_cases::answer(alloc, subject, given, input)? {
         return Ok(text);
     }
+    if let Some(text) = number_cases::answer(alloc, subject, input)? {
+        return Ok(text);
+    }
     Err(CaseError::Malformed("no such subject"))
 }

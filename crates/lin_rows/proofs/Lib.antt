@@ -5,3 +5,6 @@ pub mod Sound
 pub mod Totals
 pub mod Longest
 pub mod Places
+pub mod Room
+pub mod Expressions
+pub mod StepValues

@@ -1,12 +1,12 @@
 -- Proving is sound.
-use Rattle.std.specs.Prelude.{ℕ, zero, suc, ◌≡◌, ℤ, pos, ◌+ℤ◌, ◌*ℤ◌, ◌≤ℤ◌, ◌<ℤ◌, ◌*◌, ◌<◌, negsuc, List, [], ◌∷◌}
-use Rattle.std.proofs.Common.{arith, refl, sym, ap, ◌∙◌, ⊎_elim}
+use Rattle.std.specs.Prelude.{ℕ, zero, suc, ◌≡◌, ℤ, pos, ◌+ℤ◌, ◌*ℤ◌, ◌≤ℤ◌, ◌<ℤ◌, ◌*◌, ◌<◌, negsuc, List, [], ◌∷◌, All, length, ◌-◌, ◌≤◌}
+use Rattle.std.proofs.Common.{arith, refl, sym, ap, ◌∙◌, ⊎_elim, get_or}
 use Rattle.std.proofs.lemmas.Int.{ints}
 use Rattle.q128.specs.Fraction.{Fraction, whole, IsSame, plus, times}
 use Rattle.q128.proofs.Field.{same_trans, plus-same, times_assoc, times_plus, plus_times, zero-times, plus-zero, plus_swap, nonneg-same, nonneg-plus, nonneg-times, nonneg-raised, zero-plus}
-use Rattle.lin_rows.specs.Linear.{Linear, coefficient_of, row_at}
+use Rattle.lin_rows.specs.Linear.{Linear, nothing, coefficient_of, row_at}
 use Rattle.lin_rows.specs.Points.{dot, value_at, HoldsAt, RowsHoldAt, whole_sum, whole_value, HoldsAtWhole}
-use Rattle.lin_rows.specs.Proving.{Multipliers, sum_coefficient, sum_constant, NotNegative}
+use Rattle.lin_rows.specs.Proving.{Multipliers, AreRowNumbers, sum_coefficient, sum_constant, NotNegative}
 use Rattle.lin_rows.specs.Laws.{ReachedHolds, NoPoint, ProvedHolds, ProvedHoldsAtWhole}
 use Rattle.lin_rows.proofs.Dots.{dot-same, dot-zero, dot-plus, dot-times}
 
@@ -37,15 +37,24 @@ one_more rows n q m t v =
     same_trans (plus (times q (plus L (times k t))) (plus D d)) (plus (plus a b) (plus D d)) (plus E (times (plus (times q k) K) t)) left
     (same_trans (plus (plus a b) (plus D d)) (plus (plus a D) (plus b d)) (plus E (times (plus (times q k) K) t)) (plus_swap a b D d) (sym right))
 
-pub sum_not_negative : (rows : List Linear) (m : Multipliers) (t : Fraction) (v : List Fraction) → NotNegative m → RowsHoldAt rows t v → pos 0 ≤ℤ (plus (dot (sum_coefficient rows m) v) (times (sum_constant rows m) t)).num
-sum_not_negative rows [] t v h r =
+-- the row of a number holds
+row_holds : (P : Linear → Type 0) (rows : List Linear) (n : ℕ) → All P rows → 0 < n → n ≤ length rows → P (row_at rows n)
+row_holds P rows n each low high = each (n - 1) nothing (omega arith)
+
+-- the numbers after the first
+later_numbers : (count : ℕ) (p : ℕ × Fraction) (m : Multipliers) → AreRowNumbers count (p ∷ m) → AreRowNumbers count m
+later_numbers count p m are = record { each = λ k d below. are.each (suc k) d (omega arith) }
+
+pub sum_not_negative : (rows : List Linear) (m : Multipliers) (t : Fraction) (v : List Fraction) → AreRowNumbers (length rows) m → NotNegative m → RowsHoldAt rows t v → pos 0 ≤ℤ (plus (dot (sum_coefficient rows m) v) (times (sum_constant rows m) t)).num
+sum_not_negative rows [] t v are h r =
     let e : IsSame (plus (dot (λ i. whole (pos 0)) v) (times (whole (pos 0)) t)) (whole (pos 0)) =
     same_trans (plus (dot (λ i. whole (pos 0)) v) (times (whole (pos 0)) t)) (plus (whole (pos 0)) (whole (pos 0))) (whole (pos 0))
     (plus-same (dot (λ i. whole (pos 0)) v) (whole (pos 0)) (times (whole (pos 0)) t) (whole (pos 0)) (dot-zero v) (zero-times t)) (plus-zero (whole (pos 0))) in
     nonneg-same (whole (pos 0)) (plus (dot (λ i. whole (pos 0)) v) (times (whole (pos 0)) t)) (sym e) (record { le = tt })
-sum_not_negative rows ((n, q) ∷ m) t v h r =
-    let rest = sum_not_negative rows m t v (λ k d below. h (suc k) d (omega arith)) r in
-    let first = nonneg-times q (value_at (row_at rows n) t v) (h zero (n, q) (omega arith)) (r.each n).not_negative in
+sum_not_negative rows ((n, q) ∷ m) t v are h r =
+    let here = are.each zero (n, q) (omega arith) in
+    let rest = sum_not_negative rows m t v (later_numbers (length rows) (n, q) m are) (λ k d below. h (suc k) d (omega arith)) r in
+    let first = nonneg-times q (value_at (row_at rows n) t v) (h zero (n, q) (omega arith)) (row_holds (λ l. HoldsAt l t v) rows n r.each here.0 here.1).not_negative in
     let S = plus (dot (sum_coefficient rows m) v) (times (sum_constant rows m) t) in
     nonneg-same (plus (times q (value_at (row_at rows n) t v)) S) (plus (dot (sum_coefficient rows ((n, q) ∷ m)) v) (times (sum_constant rows ((n, q) ∷ m)) t)) (one_more rows n q m t v)
     (nonneg-plus (times q (value_at (row_at rows n) t v)) S first rest)
@@ -56,7 +65,7 @@ reached_holds rows m goal t v p h r =
     let G = dot (λ i. whole (coefficient_of goal i)) v in
     let K = sum_constant rows m in
     let same : IsSame (plus D (times K t)) (plus G (times K t)) = plus-same D G (times K t) (times K t) (dot-same (sum_coefficient rows m) (λ i. whole (coefficient_of goal i)) v p.coefficients) refl in
-    let low : pos 0 ≤ℤ (plus G (times K t)).num = nonneg-same (plus D (times K t)) (plus G (times K t)) same (sum_not_negative rows m t v p.not_negative r) in
+    let low : pos 0 ≤ℤ (plus G (times K t)).num = nonneg-same (plus D (times K t)) (plus G (times K t)) same (sum_not_negative rows m t v p.numbers p.not_negative r) in
     record { not_negative = nonneg-raised G K (whole goal.constant) t p.constant h low }
 
 -- a negative number times a positive one
@@ -72,7 +81,7 @@ no_point rows m t v p h r =
     let K = sum_constant rows m in
     let none : IsSame D (whole (pos 0)) = same_trans D (dot (λ i. whole (pos 0)) v) (whole (pos 0)) (dot-same (sum_coefficient rows m) (λ i. whole (pos 0)) v p.coefficients) (dot-zero v) in
     let same : IsSame (plus D (times K t)) (times K t) = same_trans (plus D (times K t)) (plus (whole (pos 0)) (times K t)) (times K t) (plus-same D (whole (pos 0)) (times K t) (times K t) none refl) (zero-plus (times K t)) in
-    let low : pos 0 ≤ℤ (times K t).num = nonneg-same (plus D (times K t)) (times K t) same (sum_not_negative rows m t v p.not_negative r) in
+    let low : pos 0 ≤ℤ (times K t).num = nonneg-same (plus D (times K t)) (times K t) same (sum_not_negative rows m t v p.numbers p.not_negative r) in
     let negative : (K.num *ℤ t.num) <ℤ pos 0 = negative_product K.num t.num p.constant h in
     omega (arith, ints)
 
@@ -106,4 +115,4 @@ from_wholes l zs h = record { not_negative = rw (← value_wholes l zs) h.not_ne
 
 pub proved_holds_at_whole : ProvedHoldsAtWhole
 proved_holds_at_whole rows m goal zs p r =
-    from_wholes goal zs (proved_holds rows m goal (whole (pos 1)) (wholes zs) p (record { lt = tt }) (record { each = λ n. to_wholes (row_at rows n) zs (r.each n) }))
+    from_wholes goal zs (proved_holds rows m goal (whole (pos 1)) (wholes zs) p (record { lt = tt }) (record { each = λ k d below. to_wholes (get_or rows k d) zs (r.each k d below) }))

@@ -8,7 +8,7 @@ use Rattle.q128.specs.declared.q.TooWide.{TooWide}
 use Rattle.q128.proofs.Ring.{*ℤ-swap, *ℤ-mono, *ℤ-mono_back}
 use Rattle.q128.proofs.Field.{same_trans, plus-same, plus_assoc, times-zero, plus-zero, zero-plus}
 use Rattle.lin_rows.specs.Linear.{Linear, coefficient_of, row_at}
-use Rattle.lin_rows.specs.Proving.{Multipliers, sum_coefficient, sum_constant, NotNegative, IsSum, Reaches}
+use Rattle.lin_rows.specs.Proving.{Multipliers, AreRowNumbers, sum_coefficient, sum_constant, NotNegative, IsSum, Reaches}
 use Rattle.lin_rows.specs.Combining.{◌>>=◌, Combination, zeros, term_added, places_added, row_added, rows_added, IsUnder}
 use Rattle.lin_rows.specs.Rows.{HaveRoom}
 use Rattle.lin_rows.proofs.Meaning.{bind-ok, term_made}
@@ -65,6 +65,9 @@ row_made s t q l h e =
     let k = bind-ok (term_added s.constant q l.constant) (last p.x) t p.then_is in
     row_record s t q l p.x k.x (placed [] s.coefficients q l.coefficients p.x h p.was) (term_made s.constant k.x q l.constant k.was) (cc (k.then_is))
 
+pub row_long : (s t : Combination) (q : Fraction) (l : Linear) → length l.coefficients ≤ length s.coefficients → row_added s q l ≡ Ok t → length t.coefficients ≡ length s.coefficients
+row_long s t q l h e = (row_made s t q l h e).long
+
 -- the sum with all rows
 record RowsMade (rows : List Linear) (s : Combination) (m : Multipliers) (t : Combination) : Type 0 where
   long : length t.coefficients ≡ length s.coefficients
@@ -89,7 +92,7 @@ rows_made rows s t (p ∷ m) h e =
       constant = chain t.constant u.x.constant s.constant (times p.1 (whole (row_at rows p.0).constant)) (sum_constant rows m) rest.constant r.constant;
     }
 
-room_everywhere : (rows : List Linear) (places n : ℕ) → HaveRoom places rows → length (row_at rows n).coefficients ≤ places
+pub room_everywhere : (rows : List Linear) (places n : ℕ) → HaveRoom places rows → length (row_at rows n).coefficients ≤ places
 room_everywhere rows places n h = ⊎_elim (λ (k : n - 1 < length rows). h.each (n - 1) (record { coefficients = []; constant = pos 0 }) k) (λ k. rw (get_or_past rows (n - 1) (record { coefficients = []; constant = pos 0 }) k) (omega arith)) (cases_lt (n - 1) (length rows))
 
 at_zeros : (n v : ℕ) → get_or (replicate n (whole (pos 0))) v (whole (pos 0)) ≡ whole (pos 0)
@@ -112,8 +115,9 @@ at_most-same x x' y e h =
     let raised : ((x.num *ℤ den_of y) *ℤ den_of x') ≤ℤ ((y.num *ℤ den_of x) *ℤ den_of x') = *ℤ-mono (x.num *ℤ den_of y) (y.num *ℤ den_of x) (suc x'.den_less_one) h in
     *ℤ-mono_back (x'.num *ℤ den_of y) (y.num *ℤ den_of x') x.den_less_one (subst (λ z. ((x'.num *ℤ den_of y) *ℤ den_of x) ≤ℤ z) right (subst (λ z. z ≤ℤ ((y.num *ℤ den_of x) *ℤ den_of x')) left raised))
 
-pub reaches_there : (rows : List Linear) (m : Multipliers) (goal : Linear) (t : Combination) → IsSum rows m t.coefficients t.constant → NotNegative m → IsUnder t goal → Reaches rows m goal
-reaches_there rows m goal t s h u = record {
+pub reaches_there : (rows : List Linear) (m : Multipliers) (goal : Linear) (t : Combination) → AreRowNumbers (length rows) m → IsSum rows m t.coefficients t.constant → NotNegative m → IsUnder t goal → Reaches rows m goal
+reaches_there rows m goal t are s h u = record {
+  numbers = are;
   not_negative = h;
   coefficients = λ v. same_trans (sum_coefficient rows m v) (get_or t.coefficients v (whole (pos 0))) (whole (coefficient_of goal v)) (sym (s.coefficient v)) (u.coefficients.each v);
   constant = at_most-same t.constant (sum_constant rows m) (whole goal.constant) s.constant_is u.constant;

@@ -4,4 +4,5 @@ pub mod Proving
 pub mod Combining
 pub mod Laws
 pub mod Rows
+pub mod Transitions
 pub mod Gives

@@ -1,7 +1,7 @@
 -- Points and rays of rational numbers, and where a row holds (Schrijver, section 7.2 and 8.1).
-use Rattle.std.specs.Prelude.{ℕ, zero, suc, ℤ, pos, ◌+ℤ◌, ◌*ℤ◌, ◌≤ℤ◌, List, [], ◌∷◌}
+use Rattle.std.specs.Prelude.{ℕ, zero, suc, ℤ, pos, ◌+ℤ◌, ◌*ℤ◌, ◌≤ℤ◌, List, [], ◌∷◌, All}
 use Rattle.q128.specs.Fraction.{Fraction, whole, plus, times}
-use Rattle.lin_rows.specs.Linear.{Linear, coefficient_of, row_at}
+use Rattle.lin_rows.specs.Linear.{Linear, coefficient_of}
 
 -- the sum of a factor for each coordinate times it: f 0 * v 0 + f 1 * v 1 + ..
 abbrev pub dot : (ℕ → Fraction) → List Fraction → Fraction
@@ -18,7 +18,7 @@ pub record HoldsAt (l : Linear) (t : Fraction) (v : List Fraction) : Type 0 wher
 
 -- each row holds there
 pub record RowsHoldAt (rows : List Linear) (t : Fraction) (v : List Fraction) : Type 0 where
-  pub each : (n : ℕ) → HoldsAt (row_at rows n) t v
+  pub each : All (λ (l : Linear). HoldsAt l t v) rows
 
 -- ---- whole numbers
 -- the sum of the coefficients from variable i on times whole numbers
@@ -35,4 +35,4 @@ pub record HoldsAtWhole (l : Linear) (zs : List ℤ) : Type 0 where
   pub not_negative : pos 0 ≤ℤ whole_value l zs
 
 pub record RowsHoldAtWhole (rows : List Linear) (zs : List ℤ) : Type 0 where
-  pub each : (n : ℕ) → HoldsAtWhole (row_at rows n) zs
+  pub each : All (λ (l : Linear). HoldsAtWhole l zs) rows

@@ -1,7 +1,8 @@
 ghost use Rattle.std.specs.Prelude.{◌≡◌, ◌==◌, ◌≤◌, ◌↔◌, IsTrue, All, [], length, replicate, slice_index_or, pos, OnOk, IfOk, IfErr, Ok, Err};
 ghost use Rattle.q128.specs.Fraction.{whole};
 ghost use Rattle.lin_rows.specs.Combining.{zeros, places_added, row_added, rows_added, HasCoefficients, IsUnder};
-ghost use Rattle.lin_rows.specs.Rows.{lins, AreRowNumbers, HaveRoom};
+ghost use Rattle.lin_rows.specs.Proving.{AreRowNumbers};
+ghost use Rattle.lin_rows.specs.Rows.{lins, HaveRoom};
 
 use crate::lin::Lin;
 use crate::row::Row;

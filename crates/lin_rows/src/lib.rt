@@ -8,6 +8,7 @@ mod lin;
 mod mults;
 mod point;
 mod row;
+mod sequence;
 mod sums;
 mod term;
 
@@ -17,7 +18,5 @@ pub use lin::Lin;
 pub use mults::Mults;
 pub use point::{Point, holds};
 pub use row::{Row, Transition};
+pub use sequence::Sequence;
 pub use sums::{combine, reaches};
-
-#[cfg(test)]
-mod tests;

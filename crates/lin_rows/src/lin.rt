@@ -64,9 +64,20 @@ impl Lin {
     }
 
     /// The coefficients by variable.
-    pub(crate) fn coefficients(&self) -> &[i128]
+    pub fn coefficients(&self) -> &[i128]
         ensures { result.now ≡ self.now.coefficients }
     {
         self.list.as_slice()
+    }
+}
+
+impl Clone for Lin {
+    ghost is_clone = { λ l c. c ≡ l };
+
+    fn clone(&self) -> Result<Self, AllocError> {
+        Ok(Lin {
+            list: self.list.clone()?,
+            constant: self.constant,
+        })
     }
 }

@@ -1,5 +1,5 @@
 ghost use Rattle.std.specs.Prelude.{◌≡◌, [], ◌∷◌, ◌++◌, ◌↔◌, IsTrue, OnOk, OnErr};
-ghost use Rattle.lin_rows.specs.Rows.{AreRowNumbers};
+ghost use Rattle.lin_rows.specs.Proving.{AreRowNumbers};
 
 use q128::Q;
 use std::alloc::{AllocError, Global};
@@ -50,5 +50,15 @@ impl Mults {
         ensures { result.now ≡ self.now }
     {
         self.items.as_slice()
+    }
+}
+
+impl Clone for Mults {
+    ghost is_clone = { λ m c. c ≡ m };
+
+    fn clone(&self) -> Result<Self, AllocError> {
+        Ok(Mults {
+            items: self.items.clone()?,
+        })
     }
 }

@@ -1,9 +1,9 @@
 ghost use Rattle.std.specs.Prelude.{◌≡◌, ◌≤◌, ◌↔◌, ℕ, pos, ◌≤ℤ◌, List, length, IsTrue, IfOk, Ok, Err, true};
 ghost use Rattle.q128.specs.Fraction.{Fraction, IsSame, IsAtMost};
 ghost use Rattle.lin_rows.specs.Points.{HoldsAt, RowsHoldAt};
-ghost use Rattle.lin_rows.specs.Proving.{NotNegative, IsSum, Reaches};
+ghost use Rattle.lin_rows.specs.Proving.{AreRowNumbers, NotNegative, IsSum, Reaches};
 ghost use Rattle.lin_rows.specs.Combining.{zeros, rows_added, IsUnder};
-ghost use Rattle.lin_rows.specs.Rows.{lins, longest_of, AreRowNumbers, HaveRoom};
+ghost use Rattle.lin_rows.specs.Rows.{lins, longest_of, HaveRoom};
 ghost use Rattle.lin_rows.specs.Gives.{Gives};
 
 use crate::comb::Comb;

@@ -1,9 +1,10 @@
 -- The size of a whole number, what divides it, and exact quotients.
-use Rattle.std.specs.Prelude.{ℕ, zero, suc, ◌/◌, ◌≡◌, ℤ, pos, negsuc, neg_ℤ, ◌+ℤ◌, ◌-ℤ◌, ◌*ℤ◌, unsigned_abs, int_div}
+use Rattle.std.specs.Prelude.{ℕ, zero, suc, ◌/◌, ◌≡◌, ℤ, pos, negsuc, neg_ℤ, ◌+ℤ◌, ◌-ℤ◌, ◌*ℤ◌, unsigned_abs, int_div, ◌<◌, ◌≤◌}
+use Rattle.std.specs.Int.Signed.{mag}
 use Rattle.std.specs.Int.{◌∣◌}
 use Rattle.std.proofs.Common.{arith, refl, sym, ap, ◌∙◌, subst}
 use Rattle.std.proofs.lemmas.Int.{ints, unsigned_abs-mul}
-use Rattle.std.proofs.Math.Nat.{div-mul_cancel, dvd-mul_left}
+use Rattle.std.proofs.Math.Nat.{div-mul_cancel, dvd-mul_left, div-le_self}
 use Rattle.q128.proofs.Ring.{+ℤ-*ℤ, neg_ℤ-*ℤ}
 
 pub abs-neg : (z : ℤ) → unsigned_abs (neg_ℤ z) ≡ unsigned_abs z
@@ -37,3 +38,16 @@ dvd_abs-+ d x y h k =
   where
     less : (q r : ℤ) → x +ℤ y ≡ q *ℤ pos d → y ≡ r *ℤ pos d → x ≡ (q -ℤ r) *ℤ pos d
     less q r e f = rw (+ℤ-*ℤ q (neg_ℤ r) (pos d), neg_ℤ-*ℤ r (pos d)) (omega (arith, ints))
+
+pub mag-int_div : (z : ℤ) (k : ℕ) → mag (int_div z (pos k)) ≤ mag z
+mag-int_div (pos n) k = div-le_self n k
+mag-int_div (negsuc n) k = below (suc n / k) (div-le_self (suc n) k)
+  where
+    below : (m : ℕ) → m ≤ suc n → mag (neg_ℤ (pos m)) ≤ n
+    below zero h = omega arith
+    below (suc m) h = omega arith
+
+pub abs_pos : (b : ℤ) → (b ≡ pos 0 → ⊥) → 0 < unsigned_abs b
+abs_pos (pos zero) f = absurd (f refl)
+abs_pos (pos (suc n)) f = omega arith
+abs_pos (negsuc n) f = omega arith

@@ -9,11 +9,11 @@ use Rattle.q128.specs.Rule.{narrow, narrow_natural}
 fits : (z : ℤ) → mag z < 2 ^ 127 → FitsSigned w128 z
 fits z h = record { sfits = h }
 
-is_some : (z : ℤ) → mag z < 2 ^ 127 → narrow z ≡ Some z
+pub is_some : (z : ℤ) → mag z < 2 ^ 127 → narrow z ≡ Some z
 unfolding narrow
 is_some z h = rw (lt-ltb _ _ h) refl
 
-is_none : (z : ℤ) → 2 ^ 127 ≤ mag z → narrow z ≡ None
+pub is_none : (z : ℤ) → 2 ^ 127 ≤ mag z → narrow z ≡ None
 unfolding narrow
 is_none z h = rw (le-ltb _ _ h) refl
 
@@ -35,3 +35,7 @@ narrow_natural-some n m e = ⊎_elim (λ (h : n < 2 ^ 127). is h (rw (lt-ltb n (
 
     is_not : ◌≡◌ {A = Option ℕ} None (Some m) → (m ≡ n) × (m < 2 ^ 127)
     is_not f = cc
+
+pub narrow_natural-is : (n : ℕ) → n < 2 ^ 127 → narrow_natural n ≡ Some n
+unfolding narrow_natural
+narrow_natural-is n h = rw (lt-ltb n (2 ^ 127) h) refl

@@ -8,10 +8,10 @@ use Rattle.std.proofs.Math.Nat.{div-mul_cancel, dvd-mul_left_of_dvd, dvd_trans}
 use Rattle.q128.specs.Fraction.{Fraction, den_of, IsSame, IsQuotient, plus, minus, times}
 use Rattle.q128.specs.Rule.{gcd, narrow, new_rule, new_parts, add_rule, add_parts, negate_rule, sub_rule, mul_rule, mul_parts, inverse_rule, inverse_parts, div_rule}
 use Rattle.q128.proofs.Ring.{ring, is_dif, pos-dif, dif-same, *ℤ_assoc, *ℤ-swap, *ℤ_cancel, neg_ℤ-*ℤ}
-use Rattle.q128.proofs.Abs.{int_div-*, abs-int_div}
+use Rattle.q128.proofs.Abs.{int_div-*, abs-int_div, abs_pos, mag-int_div}
 use Rattle.q128.proofs.Divisors.{IsGcd-gcd, gcd_pos}
 use Rattle.q128.proofs.Checked.{narrow-some}
-use Rattle.q128.proofs.Lowest.{div_pos, positive_product, abs_pos, mag-int_div}
+use Rattle.q128.proofs.Coprime.{div_pos, positive_product}
 use Rattle.q128.proofs.Steps.{bind-some, made-some, sum_parts-made, product_parts-made, signed-made, inverse_parts-made}
 
 -- what holds of each answer holds of the value in `Ok`

@@ -1,4 +1,5 @@
 pub mod Ring
+pub mod Coprime
 pub mod Divisors
 pub mod Checked
 pub mod Abs
@@ -6,5 +7,8 @@ pub mod Lowest
 pub mod Steps
 pub mod Exact
 pub mod Halves
+pub mod Compared
 pub mod Order
 pub mod Field
+pub mod Ordered
+pub mod Wholes

@@ -1,45 +1,22 @@
 -- The two numbers of each answer are in lowest terms.
-use Rattle.std.specs.Prelude.{ℕ, zero, suc, ◌*◌, ◌/◌, ◌^◌, ◌<◌, ◌≤◌, ◌≡◌, Some, ℤ, pos, negsuc, neg_ℤ, ◌+ℤ◌, ◌*ℤ◌, unsigned_abs, int_div}
+use Rattle.std.specs.Prelude.{ℕ, ◌*◌, ◌/◌, ◌^◌, ◌<◌, ◌≡◌, Some, ℤ, pos, neg_ℤ, ◌+ℤ◌, ◌*ℤ◌, unsigned_abs, int_div}
 use Rattle.std.specs.Int.{◌∣◌, IsGcd}
 use Rattle.std.specs.Int.Signed.{mag}
-use Rattle.std.proofs.Common.{arith, refl, sym, ap, ◌∙◌, subst, lit<}
+use Rattle.std.proofs.Common.{arith, sym, ap, ◌∙◌, subst, lit<}
 use Rattle.std.proofs.lemmas.Int.{ints, unsigned_abs-mul}
-use Rattle.std.proofs.Math.Nat.{div-mul_cancel, div-le_self, dvd-mul_left_of_dvd, dvd-mul_right, dvd_refl, eq-one_of_dvd-one}
+use Rattle.std.proofs.Math.Nat.{div-mul_cancel, div-le_self, dvd-mul_left_of_dvd, dvd_refl, eq-one_of_dvd-one}
 use Rattle.q128.specs.Rule.{gcd, new_parts, add_parts, mul_parts, inverse_parts}
 use Rattle.q128.specs.Fits.{IsQ}
-use Rattle.q128.proofs.Divisors.{IsCoprime, IsGcd-gcd, gcd_pos, coprime, only_one, coprime-swap, coprime-parts, coprime-*, coprime-/, coprime-/-*}
+use Rattle.q128.proofs.Coprime.{IsCoprime, coprime, only_one, coprime-swap, coprime-parts, coprime-*, coprime-/, coprime-/-*, quotient_divides, div_pos, positive_product, other_part}
+use Rattle.q128.proofs.Divisors.{IsGcd-gcd, gcd_pos}
 use Rattle.q128.proofs.Steps.{sum_parts-made, product_parts-made, signed-made, inverse_parts-made}
-use Rattle.q128.proofs.Abs.{abs-neg, abs-int_div, dvd_abs-+}
-
--- a quotient of a positive number by a divisor is positive
-pub div_pos : (n k : ℕ) → 0 < n → k ∣ n → 0 < n / k
-div_pos n k h d = from (n / k) (div-mul_cancel k d)
-  where
-    from : (q : ℕ) → q * k ≡ n → 0 < q
-    from zero e = omega arith
-    from (suc q) e = omega arith
+use Rattle.q128.proofs.Abs.{abs-neg, abs-int_div, abs_pos, mag-int_div}
 
 pub IsQ-coprime : (a : ℤ) (b : ℕ) → IsQ a b → IsCoprime (unsigned_abs a) b
 IsQ-coprime a b q = coprime (unsigned_abs a) b q.lowest
 
 pub coprime-IsQ : (a : ℤ) (b : ℕ) → 0 < b → b < 2 ^ 127 → IsCoprime (unsigned_abs a) b → IsQ a b
 coprime-IsQ a b low high c = record { positive = low; bounded = high; lowest = only_one (unsigned_abs a) b c }
-
-quotient_divides : (b g : ℕ) → g ∣ b → b / g ∣ b
-quotient_divides b g h = subst (λ n. b / g ∣ n) (div-mul_cancel g h) (dvd-mul_right (b / g) g)
-
--- in a * D + c * B, where B shares nothing with a and D, nothing is shared with B
-other_part : (a c : ℤ) (B D : ℕ) → IsCoprime (unsigned_abs a) B → IsCoprime D B → IsCoprime (unsigned_abs (a *ℤ pos D +ℤ c *ℤ pos B)) B
-other_part a c B D ca cd = coprime (unsigned_abs (a *ℤ pos D +ℤ c *ℤ pos B)) B (λ e p q.
-    let right : e ∣ unsigned_abs (c *ℤ pos B) = subst (λ n. e ∣ n) (sym (unsigned_abs-mul c (pos B))) (dvd-mul_left_of_dvd e q (unsigned_abs c)) in
-    let left : e ∣ unsigned_abs a * D = subst (λ n. e ∣ n) (unsigned_abs-mul a (pos D)) (dvd_abs-+ e (a *ℤ pos D) (c *ℤ pos B) p right) in
-    let both : IsCoprime (unsigned_abs a * D) B = coprime-* (unsigned_abs a) D B ca cd in
-    only_one (unsigned_abs a * D) B both e left q)
-
-pub positive_product : (m n : ℕ) → 0 < m → 0 < n → 0 < m * n
-positive_product zero n h k = absurd (omega arith)
-positive_product (suc m) zero h k = absurd (omega arith)
-positive_product (suc m) (suc n) h k = omega arith
 
 -- the sum
 pub IsQ-sum : (a c top : ℤ) (b d bottom : ℕ) → IsQ a b → IsQ c d → top ≡ a *ℤ pos (d / gcd b d) +ℤ c *ℤ pos (b / gcd b d) → bottom ≡ b / gcd b d * d → bottom < 2 ^ 127 → IsQ (int_div top (pos (gcd (unsigned_abs top) (gcd b d)))) (bottom / gcd (unsigned_abs top) (gcd b d))
@@ -101,19 +78,6 @@ IsQ-inverse_parts a b p h q e =
     let s = inverse_parts-made a b p e in
     let apart : IsCoprime b (unsigned_abs a) = coprime-swap (unsigned_abs a) b (IsQ-coprime a b q) in
     coprime-IsQ p.0 p.1 s.positive (s.bounded h) (subst (λ n. IsCoprime n p.1) (sym s.num_size) (subst (λ n. IsCoprime b n) (sym s.den_size) apart))
-
-pub mag-int_div : (z : ℤ) (k : ℕ) → mag (int_div z (pos k)) ≤ mag z
-mag-int_div (pos n) k = div-le_self n k
-mag-int_div (negsuc n) k = below (suc n / k) (div-le_self (suc n) k)
-  where
-    below : (m : ℕ) → m ≤ suc n → mag (neg_ℤ (pos m)) ≤ n
-    below zero h = omega arith
-    below (suc m) h = omega arith
-
-pub abs_pos : (b : ℤ) → (b ≡ pos 0 → ⊥) → 0 < unsigned_abs b
-abs_pos (pos zero) f = absurd (f refl)
-abs_pos (pos (suc n)) f = omega arith
-abs_pos (negsuc n) f = omega arith
 
 pub IsQ-new_parts : (a b : ℤ) (p : ℤ × ℕ) → (b ≡ pos 0 → ⊥) → mag b < 2 ^ 127 → new_parts a b (gcd (unsigned_abs a) (unsigned_abs b)) ≡ Some p → IsQ p.0 p.1
 IsQ-new_parts a b p some h e =

@@ -1,6 +1,6 @@
 -- Fractions, and what it means that they are equal, ordered, added, taken away, multiplied and divided (the field of
 -- fractions of the whole numbers; van der Waerden, Algebra I, section 13).
-use Rattle.std.specs.Prelude.{◌≡◌, ℕ, suc, ◌+◌, ◌*◌, ℤ, pos, ◌+ℤ◌, ◌-ℤ◌, ◌*ℤ◌, ◌≤ℤ◌, unsigned_abs}
+use Rattle.std.specs.Prelude.{◌≡◌, ℕ, zero, suc, ◌+◌, ◌*◌, ℤ, pos, negsuc, neg_ℤ, ◌+ℤ◌, ◌-ℤ◌, ◌*ℤ◌, ◌≤ℤ◌, unsigned_abs}
 use Rattle.std.specs.Ordering.{int_cmp}
 use Rattle.std.specs.declared.cmp.Ordering.{Ordering}
 use Rattle.std.specs.Int.{◌∣◌}
@@ -38,6 +38,10 @@ common_less_one x y = x.den_less_one * suc y.den_less_one + y.den_less_one
 abbrev pub plus : Fraction → Fraction → Fraction
 plus x y = record { num = x.num *ℤ den_of y +ℤ y.num *ℤ den_of x; den_less_one = common_less_one x y }
 
+-- -x
+abbrev pub negative : Fraction → Fraction
+negative x = record { num = neg_ℤ x.num; den_less_one = x.den_less_one }
+
 -- x - y
 abbrev pub minus : Fraction → Fraction → Fraction
 minus x y = record { num = x.num *ℤ den_of y -ℤ y.num *ℤ den_of x; den_less_one = common_less_one x y }
@@ -45,6 +49,16 @@ minus x y = record { num = x.num *ℤ den_of y -ℤ y.num *ℤ den_of x; den_les
 -- x * y
 abbrev pub times : Fraction → Fraction → Fraction
 times x y = record { num = x.num *ℤ y.num; den_less_one = common_less_one x y }
+
+-- (d + 1) / n with the sign of n, and 0 where n is 0
+abbrev pub turned : ℤ → ℕ → Fraction
+turned (pos zero) d = whole (pos 0)
+turned (pos (suc n)) d = record { num = pos (suc d); den_less_one = n }
+turned (negsuc n) d = record { num = negsuc d; den_less_one = n }
+
+-- 1 / x, and 0 where x is 0
+abbrev pub inverse : Fraction → Fraction
+inverse x = turned x.num x.den_less_one
 
 -- z is x / y: the rational whose product with y is x
 abbrev pub IsQuotient : Fraction → Fraction → Fraction → Type 0

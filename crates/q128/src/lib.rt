@@ -11,6 +11,3 @@ mod q;
 mod wide;
 
 pub use q::{Q, QOp, TooWide};
-
-#[cfg(test)]
-mod tests;

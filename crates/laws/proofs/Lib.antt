@@ -1,0 +1,7 @@
+pub mod Members
+pub mod Tests
+pub mod Numbers
+pub mod Positions
+pub mod Choices
+pub mod Repeats
+pub mod Orders

@@ -1,7 +1,8 @@
 -- Numbers in a list, by the test that looks for one.
-use Rattle.std.proofs.Common.{◌≡◌, inl, inr, ℕ, ◌<◌, true, false, List, [], ◌∷◌, length, get_or, refl, nat_eq, Contains, flat_map}
+use Rattle.std.proofs.Common.{◌≡◌, inl, inr, ℕ, ◌<◌, true, false, List, [], ◌∷◌, length, get_or, refl, ◌∙◌, nat_eq, Contains, flat_map}
 use Rattle.std.specs.List.{list_any}
 use Rattle.std.proofs.lemmas.Bool.{eqb-true, eq-eqb, or_cases, or_left, or_right}
+use Rattle.std.proofs.lemmas.List.{get_or_default}
 use Rattle.std.proofs.lemmas.List.Folds.{list_any_at}
 use Rattle.laws.proofs.Members.{in_flat, from_flat}
 use Rattle.laws.proofs.Tests.{any_in, any_has}
@@ -17,8 +18,8 @@ listed_is d xs h = let at = any_has (nat_eq d) xs h in rw (eqb-true d at.0 at.2)
 pub place_listed : (xs : List ℕ) (k d : ℕ) → k < length xs → list_any (nat_eq (get_or xs k d)) xs ≡ true
 place_listed xs k d lt = list_any_at (nat_eq (get_or xs k d)) xs k d lt (eq-eqb (get_or xs k d) (get_or xs k d) refl)
 
-pub listed_place : (d : ℕ) (xs : List ℕ) → list_any (nat_eq d) xs ≡ true → (i : ℕ) × (i < length xs) × (get_or xs i d ≡ d)
-listed_place d xs h = listed_is d xs h
+pub listed_place : (d : ℕ) (xs : List ℕ) (e : ℕ) → list_any (nat_eq d) xs ≡ true → (i : ℕ) × (i < length xs) × (get_or xs i e ≡ d)
+listed_place d xs e h = let at = listed_is d xs h in (at.0, at.1, get_or_default xs at.0 e d at.1 ∙ at.2)
 
 -- ---- one after another
 

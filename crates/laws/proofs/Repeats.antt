@@ -1,19 +1,12 @@
 -- Lists without repeat.
-use Rattle.std.proofs.Common.{◌≡◌, ◌⊎◌, inl, inr, ℕ, suc, ◌+◌, ◌-◌, ◌<◌, ◌≤◌, List, [], ◌∷◌, ◌++◌, length, take, drop, get_or, AllPairs, Contains, arith, sym, ap, ◌∙◌}
+use Rattle.std.proofs.Common.{◌≡◌, ◌⊎◌, inl, inr, ℕ, suc, ◌<◌, ◌≤◌, List, [], ◌∷◌, ◌++◌, length, take, drop, get_or, AllPairs, Contains, arith, sym, ap, ◌∙◌}
 use Rattle.std.proofs.lemmas.Bool.{cases_lt, cases_eq}
-use Rattle.std.proofs.lemmas.List.{length-append, length-take-le, length-drop, get_or-take, get_or-drop, get_or_default}
+use Rattle.std.proofs.lemmas.List.{length-append, length-take-le, length-drop, get_or_default}
 use Rattle.std.proofs.lemmas.List.Elements.{Contains-append_left, Contains-append_right}
+use Rattle.laws.proofs.Parts.{in_take, in_drop}
 use Rattle.laws.proofs.Members.{contains_head, contains_tail}
 
 module _ {A : Type 0} where
-  pub in_take : (k j : ℕ) (ys : List A) (u : A) → k < length ys → j < k → get_or ys j u ≡ u → Contains (take k ys) u
-  in_take k j ys u within lt e = (j, omega (arith, length-take-le k ys (omega arith)), get_or-take k ys j u lt ∙ e)
-
-  pub in_drop : (k j : ℕ) (ys : List A) (u : A) → j < length ys → k < j → get_or ys j u ≡ u → Contains (drop (suc k) ys) u
-  in_drop k j ys u within lt e =
-      let there : suc k + (j - suc k) ≡ j = omega arith in
-      (j - suc k, omega (arith, length-drop (suc k) ys), get_or-drop (suc k) ys (j - suc k) u ∙ (ap (λ (i : ℕ). get_or ys i u) there ∙ e))
-
   -- the list without its k-th element
   without : ℕ → List A → List A
   without k ys = take k ys ++ drop (suc k) ys

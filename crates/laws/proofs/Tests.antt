@@ -1,7 +1,7 @@
 -- Tests of the elements of lists, and what a search finds.
-use Rattle.std.proofs.Common.{◌≡◌, ◌⊎◌, Bool, true, false, ◌||◌, ◌&&◌, cond, List, [], ◌∷◌, ◌++◌, Some, None, is_some, refl, sym, ap, ◌∙◌, Contains, find, filter, flat_map, slice_get}
+use Rattle.std.proofs.Common.{◌≡◌, ◌⊎◌, Bool, true, false, ◌||◌, ◌&&◌, cond, List, [], ◌∷◌, ◌++◌, Some, None, is_some, true≢false, refl, sym, ap, ◌∙◌, Contains, find, filter, flat_map, slice_get}
 use Rattle.std.specs.List.{list_any}
-use Rattle.std.proofs.lemmas.Bool.{or_left, or_right, or_cases}
+use Rattle.std.proofs.lemmas.Bool.{or_left, or_right, or_cases, false_from_ne_true}
 use Rattle.std.proofs.lemmas.List.Folds.{list_any-append, Any-from_list_any, list_any-from_Any}
 use Rattle.laws.proofs.Members.{contains_head, contains_tail}
 
@@ -72,6 +72,10 @@ module _ {A : Type 0} (p : A → Bool) where
 
   pub find_none : (xs : List A) → find p xs ≡ None → list_any p xs ≡ false
   find_none xs h = any_find xs ∙ ap is_some h
+
+  -- where none is found, no member passes
+  pub find_misses : (xs : List A) (x : A) → find p xs ≡ None → Contains xs x → p x ≡ false
+  find_misses xs x h there = false_from_ne_true (p x) (λ t. true≢false (sym (any_in xs x there t) ∙ find_none xs h))
 
   found_at : (x : A) (xs : List A) (d : A) (b : Bool) → p x ≡ b → cond b (Some x) (find p xs) ≡ Some d → (find p xs ≡ Some d → Contains xs d × (p d ≡ true)) → Contains (x ∷ xs) d × (p d ≡ true)
   found_at x xs d true e h later = let same : x ≡ d = cc in rw (← same) (contains_head x xs, e)

@@ -3,8 +3,8 @@ use Rattle.std.proofs.Common.{◌≡◌, ◌⊎◌, inl, inr, ℕ, suc, ◌<◌,
 use Rattle.std.proofs.lemmas.Bool.{cases_lt, cases_eq}
 use Rattle.std.proofs.lemmas.List.{length-append, length-take-le, length-drop, get_or_default}
 use Rattle.std.proofs.lemmas.List.Elements.{Contains-append_left, Contains-append_right}
-use Rattle.laws.proofs.Parts.{in_take, in_drop}
-use Rattle.laws.proofs.Members.{contains_head, contains_tail}
+use Rattle.common_laws.proofs.Parts.{in_take, in_drop}
+use Rattle.common_laws.proofs.Members.{contains_head, contains_tail}
 
 module _ {A : Type 0} where
   -- the list without its k-th element

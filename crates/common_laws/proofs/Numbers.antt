@@ -4,8 +4,8 @@ use Rattle.std.specs.List.{list_any}
 use Rattle.std.proofs.lemmas.Bool.{eqb-true, eq-eqb, or_cases, or_left, or_right}
 use Rattle.std.proofs.lemmas.List.{get_or_default}
 use Rattle.std.proofs.lemmas.List.Folds.{list_any_at}
-use Rattle.laws.proofs.Members.{in_flat, from_flat}
-use Rattle.laws.proofs.Tests.{any_in, any_has}
+use Rattle.common_laws.proofs.Members.{in_flat, from_flat}
+use Rattle.common_laws.proofs.Tests.{any_in, any_has}
 
 pub listed : (d : ℕ) (xs : List ℕ) → Contains xs d → list_any (nat_eq d) xs ≡ true
 listed d xs h = any_in (nat_eq d) xs d h (eq-eqb d d refl)

@@ -1,6 +1,6 @@
 -- Lists in an order: their members determine them.
 use Rattle.std.proofs.Common.{◌≡◌, inl, inr, suc, List, [], ◌∷◌, AllPairs, Contains, arith, refl, sym, ap, subst, ◌∙◌}
-use Rattle.laws.proofs.Members.{contains_head, contains_tail, contains_cases, contains_none}
+use Rattle.common_laws.proofs.Members.{contains_head, contains_tail, contains_cases, contains_none}
 
 -- two lists with the same members
 abbrev pub HaveSame : {A : Type 0} → List A → List A → Type 0

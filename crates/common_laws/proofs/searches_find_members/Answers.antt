@@ -1,5 +1,5 @@
-use Rattle.laws.proofs.Tests.{find_some, find_none}
-use Rattle.laws.proofs.searches_find_members.Goals as goal
+use Rattle.common_laws.proofs.Tests.{find_some, find_none}
+use Rattle.common_laws.proofs.searches_find_members.Goals as goal
 
 pub returns-clause-found : goal.returns-clause-found
 returns-clause-found g c = λ p xs x h. find_some p xs x h

@@ -3,7 +3,7 @@ use Rattle.std.proofs.Common.{◌≡◌, ◌⊎◌, Bool, true, false, ◌||◌,
 use Rattle.std.specs.List.{list_any}
 use Rattle.std.proofs.lemmas.Bool.{or_left, or_right, or_cases, false_from_ne_true}
 use Rattle.std.proofs.lemmas.List.Folds.{list_any-append, Any-from_list_any, list_any-from_Any}
-use Rattle.laws.proofs.Members.{contains_head, contains_tail}
+use Rattle.common_laws.proofs.Members.{contains_head, contains_tail}
 
 module _ {A : Type 0} (p : A → Bool) where
   -- ---- members that pass

@@ -1,5 +1,0 @@
-use Rattle.laws.proofs.Positions.{position_at}
-use Rattle.laws.proofs.first_places.Goals as goal
-
-pub returns : goal.returns
-returns g c = λ p xs i d lt here before. position_at p xs i d lt here before

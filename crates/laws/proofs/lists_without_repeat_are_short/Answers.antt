@@ -1,5 +1,0 @@
-use Rattle.laws.proofs.Repeats.{no_longer}
-use Rattle.laws.proofs.lists_without_repeat_are_short.Goals as goal
-
-pub returns : goal.returns
-returns g c = λ xs ys once inside. no_longer xs ys once inside

@@ -7,11 +7,11 @@ use Rattle.std.proofs.lemmas.List.Folds.{list_any_at}
 use Rattle.common_laws.proofs.Members.{in_flat, from_flat}
 use Rattle.common_laws.proofs.Tests.{any_in, any_has}
 
-pub listed : (d : ℕ) (xs : List ℕ) → Contains xs d → list_any (nat_eq d) xs ≡ true
-listed d xs h = any_in (nat_eq d) xs d h (eq-eqb d d refl)
+pub contains_listed : (d : ℕ) (xs : List ℕ) → Contains xs d → list_any (nat_eq d) xs ≡ true
+contains_listed d xs h = any_in (nat_eq d) xs d h (eq-eqb d d refl)
 
-pub listed_is : (d : ℕ) (xs : List ℕ) → list_any (nat_eq d) xs ≡ true → Contains xs d
-listed_is d xs h = let at = any_has (nat_eq d) xs h in rw (eqb-true d at.0 at.2) at.1
+pub listed_contains : (d : ℕ) (xs : List ℕ) → list_any (nat_eq d) xs ≡ true → Contains xs d
+listed_contains d xs h = let at = any_has (nat_eq d) xs h in rw (eqb-true d at.0 at.2) at.1
 
 -- ---- places
 
@@ -19,7 +19,7 @@ pub place_listed : (xs : List ℕ) (k d : ℕ) → k < length xs → list_any (n
 place_listed xs k d lt = list_any_at (nat_eq (get_or xs k d)) xs k d lt (eq-eqb (get_or xs k d) (get_or xs k d) refl)
 
 pub listed_place : (d : ℕ) (xs : List ℕ) (e : ℕ) → list_any (nat_eq d) xs ≡ true → (i : ℕ) × (i < length xs) × (get_or xs i e ≡ d)
-listed_place d xs e h = let at = listed_is d xs h in (at.0, at.1, get_or_default xs at.0 e d at.1 ∙ at.2)
+listed_place d xs e h = let at = listed_contains d xs h in (at.0, at.1, get_or_default xs at.0 e d at.1 ∙ at.2)
 
 -- ---- one after another
 
@@ -35,7 +35,7 @@ one_listed d c h = elim (or_cases (nat_eq d c) false h) [ inl same ↦ eqb-true 
 -- ---- lists that are made of others
 
 pub flat_listed : (d : ℕ) (f : ℕ → List ℕ) (xs : List ℕ) (j : ℕ) → list_any (nat_eq j) xs ≡ true → list_any (nat_eq d) (f j) ≡ true → list_any (nat_eq d) (flat_map f xs) ≡ true
-flat_listed d f xs j h k = listed d (flat_map f xs) (in_flat f xs j d (listed_is j xs h) (listed_is d (f j) k))
+flat_listed d f xs j h k = contains_listed d (flat_map f xs) (in_flat f xs j d (listed_contains j xs h) (listed_contains d (f j) k))
 
 pub listed_flat : (d : ℕ) (f : ℕ → List ℕ) (xs : List ℕ) → list_any (nat_eq d) (flat_map f xs) ≡ true → (j : ℕ) × (list_any (nat_eq j) xs ≡ true) × (list_any (nat_eq d) (f j) ≡ true)
-listed_flat d f xs h = let from = from_flat f xs d (listed_is d (flat_map f xs) h) in (from.0, listed from.0 xs from.1, listed d (f from.0) from.2)
+listed_flat d f xs h = let from = from_flat f xs d (listed_contains d (flat_map f xs) h) in (from.0, contains_listed from.0 xs from.1, contains_listed d (f from.0) from.2)

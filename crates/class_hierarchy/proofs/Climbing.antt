@@ -1,8 +1,7 @@
 -- Climbing from one superinterface to the next, and what is found on the way.
 use Rattle.std.proofs.Common.{◌≡◌, ◌≢◌, inl, inr, ℕ, zero, suc, ◌<◌, ◌≤◌, Bool, true, false, not, ◌||◌, List, [], ◌∷◌, ◌++◌, length, slice_get, Option, Some, None, if◌then◌else◌, arith, refl, sym, ap, subst, ◌∙◌, nat_eq, append_assoc, append-nil, true≢false}
 use Rattle.std.specs.List.{list_any, flat_map}
-use Rattle.std.proofs.lemmas.Bool.{eqb-true, eq-eqb, ne_eqb}
-use Rattle.std.proofs.lemmas.Bool.Decides.{eqb_tells}
+use Rattle.std.proofs.lemmas.Bool.{eq-eqb, ne_eqb}
 use Rattle.indexmap.specs.IndexSet.{insert_key}
 use Rattle.common_laws.proofs.Numbers.{head_listed, one_listed, flat_listed, listed_flat}
 use Rattle.common_laws.proofs.Tests.{any_left, any_right, any_either}

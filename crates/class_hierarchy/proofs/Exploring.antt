@@ -1,7 +1,6 @@
 -- What steps lead to, and members of lists.
-use Rattle.std.proofs.Common.{◌≡◌, ◌⊎◌, inl, inr, ℕ, zero, suc, ◌<◌, Bool, true, false, ◌||◌, List, [], ◌∷◌, ◌++◌, length, get_or, arith, refl, sym, nat_eq}
+use Rattle.std.proofs.Common.{◌≡◌, ℕ, true, List, [], nat_eq}
 use Rattle.std.specs.List.{list_any, IsDistinct}
-use Rattle.std.proofs.lemmas.Bool.{eqb-true, eq-eqb}
 use Rattle.class_hierarchy.specs.Building.{LeadsTo}
 use Rattle.class_hierarchy.specs.Building.LeadsTo.{once, through}
 

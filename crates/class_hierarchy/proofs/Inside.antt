@@ -1,7 +1,7 @@
 -- What stands above a class is there.
-use Rattle.std.proofs.Common.{◌≡◌, inl, inr, ℕ, zero, suc, ◌<◌, Bool, true, false, ◌||◌, List, [], ◌∷◌, length, Option, Some, None, refl, nat_eq}
+use Rattle.std.proofs.Common.{◌≡◌, inl, inr, ℕ, zero, suc, ◌<◌, true, List, [], ◌∷◌, length, Option, Some, None, refl, nat_eq}
 use Rattle.std.specs.List.{list_any, flat_map}
-use Rattle.std.proofs.lemmas.Bool.{eqb-true, eq-eqb, or_cases}
+use Rattle.std.proofs.lemmas.Bool.{eqb-true, or_cases}
 use Rattle.common_laws.proofs.Numbers.{head_listed, tail_listed}
 use Rattle.common_laws.proofs.Tests.{any_either}
 use Rattle.class_hierarchy.specs.World.{World, superclass, interfaces, line, line_from, above, above_by, superinterfaces}

@@ -1,6 +1,6 @@
 -- Classes that lead back to themselves, by the components of the graph of what they name.
-use Rattle.std.proofs.Common.{◌≡◌, ◌⊎◌, ◌↔◌, inl, inr, ℕ, zero, suc, ◌+◌, ◌<◌, ◌≤◌, Bool, true, false, ◌||◌, List, [], ◌∷◌, ◌++◌, length, take, get_or, Some, None, arith, refl, sym, ap, subst, ◌∙◌, nat_eq, true≢false}
-use Rattle.std.specs.Prelude.{Contains, replicate, slice_index_or}
+use Rattle.std.proofs.Common.{◌≡◌, ◌⊎◌, ◌↔◌, inl, inr, ℕ, zero, suc, ◌+◌, ◌<◌, ◌≤◌, true, false, List, [], ◌∷◌, ◌++◌, length, take, get_or, Some, None, arith, refl, sym, ap, subst, ◌∙◌, nat_eq, true≢false}
+use Rattle.std.specs.Prelude.{replicate, slice_index_or}
 use Rattle.std.specs.List.{list_any}
 use Rattle.std.proofs.lemmas.List.{take_more, take_all, length-replicate}
 use Rattle.std.proofs.lemmas.Bool.{or_left, eqb-true, eq-eqb, cases_lt}

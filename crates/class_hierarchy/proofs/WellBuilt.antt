@@ -1,11 +1,11 @@
 -- What holds of each well-built world.
 use Rattle.std.proofs.Common.{◌≡◌, inl, inr, ℕ, zero, suc, ◌+◌, ◌<◌, ◌≤◌, Bool, true, false, List, [], ◌∷◌, ◌++◌, length, Option, Some, None, is_none, arith, refl, sym, ap, subst, ◌∙◌, nat_eq, get_or}
 use Rattle.std.specs.Prelude.{find, All, IfSome}
-use Rattle.std.specs.Option.{option_and_then, option_map, option_map_or, option_or, option_to_list}
+use Rattle.std.specs.Option.{option_and_then, option_map_or, option_to_list}
 use Rattle.std.specs.List.{list_any, flat_map, IsDistinct}
 use Rattle.std.specs.Cmp.{nat_eq_equiv}
-use Rattle.std.proofs.lemmas.Bool.{cases_lt, eq-eqb, eqb-true}
-use Rattle.std.proofs.lemmas.List.{length-append, length_push}
+use Rattle.std.proofs.lemmas.Bool.{cases_lt, eq-eqb}
+use Rattle.std.proofs.lemmas.List.{length_push}
 use Rattle.std.proofs.lemmas.List.Quantifiers.{position-Some}
 use Rattle.std.proofs.lemmas.Slice.Eq.{bytes_eq-Decides}
 use Rattle.std.proofs.lemmas.Map.Keys.{IsDistinct-push}

@@ -4,6 +4,7 @@ use Rattle.std.specs.Prelude.{option_and_then, option_map}
 use Rattle.std.specs.List.{AllByRecursion}
 use Rattle.std.specs.Result.{result_ok}
 use Rattle.std.proofs.lemmas.List.Elements.{All-from_recursion, All-contains, Contains-append_left, Contains-append_right}
+use Rattle.common_laws.proofs.Members.{contains_head, in_map}
 use Rattle.class_reader.specs.declared.class.Method.{Method}
 use Rattle.class_reader.specs.declared.class.Code.{Code}
 use Rattle.op_table.specs.Actions.{action_of}
@@ -26,7 +27,6 @@ use Rattle.code_flow.specs.Judging.{Judged, judged, judged_place, against_method
 use Rattle.code_flow.specs.Listing.{targets_in}
 use Rattle.code_flow.specs.Flow.{planned_place, planned_in, planned}
 use Rattle.code_flow.specs.Program.{IsFree, Calls, IsProgram}
-use Rattle.call_costs.proofs.Members.{in_head, map_in}
 use Rattle.call_costs.proofs.Placing.{OnPath, path_instr, path_at}
 use Rattle.call_costs.proofs.Stable.{the_method, found_method, listed_method}
 use Rattle.call_costs.proofs.Words.{AreKnown}
@@ -92,7 +92,7 @@ verdict_at w first m program code p is listed has there =
     let place : Judged = judged_place w m.class code.bytes p in
     let judged_places = map (judged_place w m.class code.bytes) (placed code.bytes) in
     let against = against_method places.0 code in
-    let here : Contains judged_places place = map_in (judged_place w m.class code.bytes) p (placed code.bytes) there in
+    let here : Contains judged_places place = in_map (judged_place w m.class code.bytes) (placed code.bytes) p there in
     let in_all = Contains-append_left (against ++ judged_places) (against_break (broken code.bytes)) place (Contains-append_right against judged_places place here) in
     places_free w first m program is listed place (subst (λ (all : List Judged). Contains all place) (sym places.1) in_all)
 
@@ -100,7 +100,7 @@ whole_by : (front : List Judged) (at : Option ℕ) → ((place : Judged) → Con
 whole_by front None free = refl
 whole_by front (Some pc) free =
     let place : Judged = record { pc = pc; verdict = Err constructs.Opcode } in
-    let is = free place (Contains-append_right front (place ∷ []) place (in_head place [])) in
+    let is = free place (Contains-append_right front (place ∷ []) place (contains_head place [])) in
     absurd (let no : Err constructs.Opcode ≡ Ok is.0 = is.1 in cc)
 
 -- and its code isn't broken
@@ -176,6 +176,6 @@ plan_calls w first program a t is s p there =
       listed = own.listed;
       is_caller = own.of_method;
       instruction = this;
-      stands = subst (λ (all : List Planned). Contains all this) (sym same) (map_in (planned_place w m.class s.code.bytes) place (placed s.code.bytes) at);
+      stands = subst (λ (all : List Planned). Contains all this) (sym same) (in_map (planned_place w m.class s.code.bytes) (placed s.code.bytes) place at);
       calls = subst (λ (r : Result (List MemberId) _). Contains (targets_in r) t) (sym p.verdict) there;
     }

@@ -2,6 +2,7 @@
 use Rattle.std.proofs.Common.{◌≡◌, inl, ℕ, suc, false, ◌<◌, List, [], ◌∷◌, length, map, get_or, Option, Some, refl, sym, ◌∙◌, ap, subst, arith, Contains}
 use Rattle.std.specs.Prelude.{slice_get, option_and_then}
 use Rattle.std.proofs.lemmas.List.Elements.{All-nil, All-cons, All-append, All-weaker, Contains-get_or, recursion_from_All}
+use Rattle.common_laws.proofs.Members.{contains_head, in_map}
 use Rattle.class_reader.specs.declared.class.Method.{Method}
 use Rattle.world.specs.declared.member.MemberId.{MemberId}
 use Rattle.class_hierarchy.specs.World.{World}
@@ -24,7 +25,6 @@ use Rattle.code_flow.specs.Placing.{Placed, placed}
 use Rattle.code_flow.specs.Flow.{planned, planned_place}
 use Rattle.code_flow.specs.Program.{IsProgram}
 use Rattle.call_costs.specs.Standing.{IsSound, Stands, HasInstructions}
-use Rattle.call_costs.proofs.Members.{in_head, map_in}
 use Rattle.call_costs.proofs.Placing.{path_start, path_instr, path_at}
 use Rattle.call_costs.proofs.Words.{IsKnown, AreKnown, first_known}
 use Rattle.call_costs.proofs.Heaps.{grows_self}
@@ -64,7 +64,7 @@ unfolding planned
 first_listed w m [] e = absurd cc
 first_listed w m (r ∷ others) e =
     let same : r ≡ planned w m = cc in
-    subst (λ (n : MemberId). IsListed (r ∷ others) n) (ap (λ (x : Reached). x.method) same) (in_head r.method (map (λ (x : Reached). x.method) others))
+    subst (λ (n : MemberId). IsListed (r ∷ others) n) (ap (λ (x : Reached). x.method) same) (contains_head r.method (map (λ (x : Reached). x.method) others))
 
 pub program_listed : (w : World) (m : MemberId) (program : List Reached) → IsProgram w m program → IsListed program m
 program_listed w m program is = first_listed w m program is.start
@@ -121,7 +121,7 @@ standing_told w m program a is s =
       listed = own.listed;
       is_method = own.of_method;
       instruction = this;
-      placed = subst (λ (all : List Planned). Contains all this) (sym same) (map_in (planned_place w n.class s.code.bytes) place (placed s.code.bytes) at);
+      placed = subst (λ (all : List Planned). Contains all this) (sym same) (in_map (planned_place w n.class s.code.bytes) (placed s.code.bytes) place at);
       at = refl;
       locals = recursion_from_All (IsSound w a.heap) a.frame.locals (All-weaker (IsKnown w a.heap) (IsSound w a.heap) sound a.frame.locals s.locals);
       stack = recursion_from_All (IsSound w a.heap) a.frame.stack (All-weaker (IsKnown w a.heap) (IsSound w a.heap) sound a.frame.stack s.stack);

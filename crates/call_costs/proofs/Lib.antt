@@ -1,4 +1,3 @@
-mod Members
 mod Stable
 mod Words
 mod Heaps

@@ -3,8 +3,10 @@ use Rattle.std.proofs.Common.{◌≡◌, inl, inr, ℕ, zero, suc, ◌+◌, ◌<
 use Rattle.std.specs.Prelude.{if◌then◌else◌, slice_get}
 use Rattle.std.specs.Option.{option_map_or}
 use Rattle.std.proofs.lemmas.Bool.{cases_lt}
-use Rattle.std.proofs.lemmas.Option.{slice_get-get_or, get_or_from_slice_get}
+use Rattle.std.proofs.lemmas.Option.{slice_get-get_or, get_or_from_slice_get, slice_get_within}
 use Rattle.std.proofs.lemmas.List.Elements.{All-from_recursion}
+use Rattle.code_flow.proofs.Members.{is_method_same, is_method_itself}
+use Rattle.common_laws.proofs.Members.{contains_at, place_of, in_map, map_same}
 use Rattle.world.specs.declared.member.MemberId.{MemberId}
 use Rattle.code_flow.specs.declared.program.Reached.{Reached}
 use Rattle.code_flow.specs.Listing.{is_method}
@@ -13,21 +15,7 @@ use Rattle.call_costs.specs.declared.fault.CostFault.{CostFault}
 use Rattle.call_costs.specs.declared.fault.CostFault.TheVariants as fault
 use Rattle.call_costs.specs.Costs.{cost_of_code, instructions_of, cost_of, most_cost, costs_of, IsTooGreat}
 use Rattle.call_costs.specs.Knowing.{IsEachOnce, IsPriced, Knows, HasCosts}
-use Rattle.call_costs.proofs.Members.{map_in, map_same}
-use Rattle.call_costs.proofs.Stable.{same_method, own_method, found_method, listed_method, code_same, cost_step, order_deep}
-
--- ---- places in lists
-
-pub at_place : {X : Type 0} (xs : List X) (i : ℕ) (x : X) → slice_get xs i ≡ Some x → i < length xs
-at_place [] i x e = absurd cc
-at_place (y ∷ ys) zero x e = omega arith
-at_place (y ∷ ys) (suc i) x e = let later = at_place ys i x e in omega (arith, later)
-
-pub in_place : {X : Type 0} (xs : List X) (i : ℕ) (x : X) → slice_get xs i ≡ Some x → Contains xs x
-in_place xs i x e = (i, at_place xs i x e, get_or_from_slice_get xs i x x e)
-
-pub place_of : {X : Type 0} (xs : List X) (x : X) → (h : Contains xs x) → slice_get xs h.0 ≡ Some x
-place_of xs x h = slice_get-get_or xs h.0 x h.1 ∙ ap Some h.2
+use Rattle.call_costs.proofs.Stable.{found_method, listed_method, code_same, cost_step, order_deep}
 
 -- ---- a method that is listed once
 
@@ -35,7 +23,7 @@ apart_at : (program : List Reached) (a b : ℕ) (r s : Reached) → IsEachOnce p
 apart_at program a b r s once before at_a at_b same =
     let first : get_or program a r ≡ r = get_or_from_slice_get program a r r at_a in
     let second : get_or program b r ≡ s = get_or_from_slice_get program b s r at_b in
-    once a b r before (at_place program b s at_b) (ap (λ (x : Reached). x.method) first ∙ same ∙ sym (ap (λ (x : Reached). x.method) second))
+    once a b r before (slice_get_within program b s at_b) (ap (λ (x : Reached). x.method) first ∙ same ∙ sym (ap (λ (x : Reached). x.method) second))
 
 same_place : (program : List Reached) (a b : ℕ) (r s : Reached) → a ≡ b → slice_get program a ≡ Some r → slice_get program b ≡ Some s → r ≡ s
 same_place program a b r s e at_a at_b =
@@ -54,7 +42,7 @@ same_reached program a b r s once at_a at_b same =
 
 own_instructions : (program : List Reached) (k : ℕ) (r : Reached) → IsEachOnce program → slice_get program k ≡ Some r → instructions_of program r.method ≡ r.instructions
 own_instructions program k r once at =
-    let there : Contains (map (λ (x : Reached). x.method) program) r.method = map_in (λ (x : Reached). x.method) r program (in_place program k r at) in
+    let there : Contains (map (λ (x : Reached). x.method) program) r.method = in_map (λ (x : Reached). x.method) program r (contains_at program k r at) in
     let first = listed_method r.method program there in
     let is = found_method r.method program first.0 first.1 in
     let same : r ≡ first.0 = same_reached program k is.0.0 r first.0 once at (place_of program first.0 is.0) is.1 in
@@ -68,10 +56,10 @@ priced_cost : (weights : ℕ → ℕ) (program : List Reached) (order : List ℕ
     → cost_of weights program r.method ≡ cost_of_code weights known r.instructions
 priced_cost weights program order i k r known once is at stands knows =
     let m : MemberId = r.method in
-    let inside : i < length program = omega (arith, at_place order i k at, is.count) in
+    let inside : i < length program = omega (arith, slice_get_within order i k at, is.count) in
     let deep = order_deep program order (length program) i k r is at stands inside in
     let instructions = own_instructions program k r once stands in
-    let there : Contains program r = in_place program k r stands in
+    let there : Contains program r = contains_at program k r stands in
     cost_step weights program m deep
     ∙ ap (cost_of_code weights (cost_of weights program)) instructions
     ∙ code_same weights (cost_of weights program) known r.instructions (λ p t placed calls.
@@ -82,7 +70,7 @@ priced_cost weights program order i k r known once is at stands knows =
     subst (λ (x : MemberId). cost_of weights program x ≡ known x) same (sym (knows callee.0 callee.1 c callee.3 callee.4 callee.5).0))
 
 not_other : (m : MemberId) → is_method m m ≡ false → ⊥
-not_other m e = let same : is_method m m ≡ true = own_method m in absurd cc
+not_other m e = let same : is_method m m ≡ true = is_method_itself m in absurd cc
 
 knows_if : (weights : ℕ → ℕ) (program : List Reached) (order : List ℕ) (i k j l : ℕ) (r s : Reached) (before : MemberId → ℕ) (b : Bool)
     → is_method r.method s.method ≡ b → slice_get order i ≡ Some k → slice_get program k ≡ Some r → Knows weights program order i before
@@ -90,7 +78,7 @@ knows_if : (weights : ℕ → ℕ) (program : List Reached) (order : List ℕ) (
     → j < i + 1 → slice_get order j ≡ Some l → slice_get program l ≡ Some s
     → ((if b then cost_of_code weights before r.instructions else before s.method) ≡ cost_of weights program s.method) × (cost_of weights program s.method ≤ most_cost)
 knows_if weights program order i k j l r s before true is at stands knows cost low below at_j stands_l =
-    let same : r.method ≡ s.method = same_method r.method s.method is in
+    let same : r.method ≡ s.method = is_method_same r.method s.method is in
     let costs : cost_of weights program s.method ≡ cost_of_code weights before r.instructions = ap (cost_of weights program) (sym same) ∙ cost in
     (sym costs, omega (arith, costs, low))
 knows_if weights program order i k j l r s before false is at stands knows cost low below at_j stands_l =
@@ -125,7 +113,7 @@ pub too_great : (weights : ℕ → ℕ) (program : List Reached) (order : List �
     → slice_get order i ≡ Some k → slice_get program k ≡ Some r → most_cost < cost_of_code weights before r.instructions → Knows weights program order i before → IsTooGreat weights program
 too_great weights program order i k r before once is at stands high knows =
     let cost = priced_cost weights program order i k r before once is at stands knows in
-    (r, in_place program k r stands, omega (arith, high, cost))
+    (r, contains_at program k r stands, omega (arith, high, cost))
 
 -- ---- places in the order
 

@@ -3,6 +3,7 @@ use Rattle.std.proofs.Common.{◌≡◌, inl, inr, ℕ, ◌+◌, ◌-◌, ◌<�
 use Rattle.std.specs.Prelude.{if◌then◌else◌}
 use Rattle.std.specs.Option.{option_map_or}
 use Rattle.std.proofs.lemmas.Bool.Decides.{nat_tests}
+use Rattle.common_laws.proofs.Members.{contains_cases, contains_none, in_map}
 use Rattle.class_reader.specs.declared.class.Code.{Code}
 use Rattle.op_table.specs.Actions.{action_of}
 use Rattle.op_table.specs.Grammar.{instr_at}
@@ -26,7 +27,6 @@ use Rattle.code_flow.specs.Listing.{targets_in}
 use Rattle.code_flow.specs.Flow.{planned_place}
 use Rattle.code_flow.specs.Program.{IsProgram}
 use Rattle.call_costs.specs.Costs.{greatest, cost_of_code, instructions_of, cost_of}
-use Rattle.call_costs.proofs.Members.{in_cases, in_nothing, map_in}
 use Rattle.call_costs.proofs.Stable.{cost_step, program_deep}
 use Rattle.call_costs.proofs.Placing.{behind, behind_is}
 use Rattle.call_costs.proofs.Activations.{IsListed, IsStanding, own_reached, own_instructions, plan_of, plan_calls}
@@ -40,10 +40,10 @@ greatest_if cost others false e = let high : others < cost = grind (arith, nat_t
 
 pub greatest_least : (costs : List ℕ) (cost : ℕ) → Contains costs cost → cost ≤ greatest costs
 unfolding greatest
-greatest_least [] cost there = absurd (in_nothing cost there)
+greatest_least [] cost there = absurd (contains_none cost there)
 greatest_least (c ∷ costs) cost there =
     let both = greatest_if c (greatest costs) (nat_le c (greatest costs)) refl in
-    elim (in_cases c cost costs there) [
+    elim (contains_cases c costs cost there) [
       | inl same ↦ omega (arith, both.0, same)
       | inr later ↦ omega (arith, both.1, greatest_least costs cost later)
     ]
@@ -160,7 +160,7 @@ module _ {w : World} {first : MemberId} {program : List Reached} (weights : ℕ 
       let listed : IsListed program t = is.closed a.frame.method t (plan_calls w first program a t is s p there) in
       let now : b ≡ in_frame a (new_frame t c.called.code c.called.handed.words) = st.begins ∙ ap (in_frame a) c.called.enters in
       let begun : left weights program w b ≡ cost_of weights program t = ap (λ (x : Here). left weights program w x) now ∙ start_left weights program w first t c.called.code is listed c.called.has_code in
-      let most : cost_of weights program t ≤ greatest (map (cost_of weights program) p.targets) = greatest_least (map (cost_of weights program) p.targets) (cost_of weights program t) (map_in (cost_of weights program) t p.targets there) in
+      let most : cost_of weights program t ≤ greatest (map (cost_of weights program) p.targets) = greatest_least (map (cost_of weights program) p.targets) (cost_of weights program t) (in_map (cost_of weights program) p.targets t there) in
       let on : is_end (action_of p.instr) ≡ false = ap is_end c.is in
       omega (arith, spent, begun, most, behind_it, st.costs, left_goes_on s on)
 

@@ -1,9 +1,14 @@
 -- A method's cost doesn't depend on how deep calls may be nested, once that is enough.
 use Rattle.std.proofs.Common.{◌≡◌, ◌⊎◌, inl, inr, ℕ, zero, suc, ◌+◌, ◌<◌, ◌≤◌, Bool, true, false, cond, List, [], ◌∷◌, length, map, find, Option, Some, None, refl, sym, ◌∙◌, ap, subst, arith, Contains, nat_eq}
-use Rattle.std.specs.Prelude.{if◌then◌else◌, slice_get}
+use Rattle.std.specs.Prelude.{if◌then◌else◌, slice_get, AllPairs}
 use Rattle.std.specs.Option.{option_map_or}
 use Rattle.std.proofs.lemmas.Bool.{eqb-true, eq-eqb, and_parts}
 use Rattle.std.proofs.lemmas.List.{length-map}
+use Rattle.std.proofs.lemmas.List.Kept.{AllPairs-cons}
+use Rattle.std.proofs.lemmas.List.Elements.{Contains-get_or}
+use Rattle.code_flow.proofs.Members.{is_method_same, is_method_itself}
+use Rattle.common_laws.proofs.Repeats.{no_longer}
+use Rattle.common_laws.proofs.Members.{contains_head, contains_tail, contains_cases, contains_none, map_same}
 use Rattle.op_table.specs.Actions.{action_of}
 use Rattle.world.specs.declared.member.MemberId.{MemberId}
 use Rattle.class_hierarchy.specs.World.{World}
@@ -13,19 +18,8 @@ use Rattle.code_flow.specs.Judging.{is_end}
 use Rattle.code_flow.specs.Listing.{is_method}
 use Rattle.code_flow.specs.Program.{Calls, CallsLead, once, through, IsProgram, IsCalleesFirst}
 use Rattle.call_costs.specs.Costs.{greatest, cost_of_code, instructions_of, cost_within, cost_of}
-use Rattle.call_costs.proofs.Members.{in_head, in_tail, in_cases, in_nothing, IsOnce, once_short, map_same}
 
 -- ---- a method of the program
-
-pub same_method : (m n : MemberId) → is_method m n ≡ true → m ≡ n
-same_method m n e =
-    let parts = and_parts (nat_eq m.class n.class) (nat_eq m.member n.member) e in
-    let class : m.class ≡ n.class = eqb-true m.class n.class parts.0 in
-    let member : m.member ≡ n.member = eqb-true m.member n.member parts.1 in
-    ap (λ c. record { class = c; member = m.member }) class ∙ ap (λ k. record { class = n.class; member = k }) member
-
-pub own_method : (m : MemberId) → is_method m m ≡ true
-own_method m = rw (eq-eqb m.class m.class refl, eq-eqb m.member m.member refl) refl
 
 abbrev pub the_method : MemberId → List Reached → Option Reached
 the_method m program = find (λ (r : Reached). is_method m r.method) program
@@ -34,8 +28,8 @@ find_if : (m : MemberId) (b : Bool) (r : Reached) (others : List Reached) (x : R
     → (the_method m others ≡ Some x → Contains others x × (m ≡ x.method)) → Contains (r ∷ others) x × (m ≡ x.method)
 find_if m true r others x is e later =
     let same : r ≡ x = cc in
-    (subst (λ (y : Reached). Contains (r ∷ others) y) same (in_head r others), same_method m r.method is ∙ ap (λ (y : Reached). y.method) same)
-find_if m false r others x is e later = let behind = later e in (in_tail r x others behind.0, behind.1)
+    (subst (λ (y : Reached). Contains (r ∷ others) y) same (contains_head r others), is_method_same m r.method is ∙ ap (λ (y : Reached). y.method) same)
+find_if m false r others x is e later = let behind = later e in (contains_tail r others x behind.0, behind.1)
 
 pub found_method : (m : MemberId) (program : List Reached) (x : Reached) → the_method m program ≡ Some x → Contains program x × (m ≡ x.method)
 found_method m [] x e = absurd cc
@@ -46,12 +40,12 @@ find_listed m true r o later = (r, refl)
 find_listed m false r o later = later refl
 
 pub listed_method : (m : MemberId) (program : List Reached) → Contains (map (λ (r : Reached). r.method) program) m → (x : Reached) × (the_method m program ≡ Some x)
-listed_method m [] h = absurd (in_nothing m h)
+listed_method m [] h = absurd (contains_none m h)
 listed_method m (r ∷ others) h =
     find_listed m (is_method m r.method) r (the_method m others)
-    (λ not. elim (in_cases r.method m (map (λ (x : Reached). x.method) others) h) [
+    (λ not. elim (contains_cases r.method (map (λ (x : Reached). x.method) others) m h) [
       | inl same ↦
-          let is : is_method m r.method ≡ true = subst (λ (n : MemberId). is_method m n ≡ true) (sym same) (own_method m) in
+          let is : is_method m r.method ≡ true = subst (λ (n : MemberId). is_method m n ≡ true) (sym same) (is_method_itself m) in
           absurd (cc)
       | inr later ↦ listed_method m others later
     ])
@@ -59,7 +53,7 @@ listed_method m (r ∷ others) h =
 -- a method that an instruction of another one can call
 calls_in : (program : List Reached) (m t : MemberId) (o : Option Reached) (i : Planned) → the_method m program ≡ o
     → Contains (option_map_or (λ (r : Reached). r.instructions) o []) i → Contains i.targets t → Calls program m t
-calls_in program m t None i e stands calls = absurd (in_nothing i stands)
+calls_in program m t None i e stands calls = absurd (contains_none i stands)
 calls_in program m t (Some r) i e stands calls =
     let is = found_method m program r e in
     record { caller = r; listed = is.0; is_caller = sym is.1; instruction = i; stands = stands; calls = calls }
@@ -74,8 +68,8 @@ pub code_same : (weights : ℕ → ℕ) (f g : MemberId → ℕ) (is : List Plan
 unfolding cost_of_code
 code_same weights f g [] same = refl
 code_same weights f g (i ∷ is) same =
-    let targets : map f i.targets ≡ map g i.targets = map_same f g i.targets (λ t h. same i t (in_head i is) h) in
-    let later : cost_of_code weights f is ≡ cost_of_code weights g is = code_same weights f g is (λ j t h. same j t (in_tail i j is h)) in
+    let targets : map f i.targets ≡ map g i.targets = map_same f g i.targets (λ t h. same i t (contains_head i is) h) in
+    let later : cost_of_code weights f is ≡ cost_of_code weights g is = code_same weights f g is (λ j t h. same j t (contains_tail i is j h)) in
     ap (λ (costs : List ℕ). weights i.instr.op + greatest costs + (if is_end (action_of i.instr) then 0 else cost_of_code weights f is)) targets
     ∙ ap (λ (rest : ℕ). weights i.instr.op + greatest (map g i.targets) + (if is_end (action_of i.instr) then 0 else rest)) later
 
@@ -118,24 +112,23 @@ leads_on program m t u (through {t = v} calls leads) more = through calls (leads
 
 -- the methods on the way to one, itself with them
 record IsWay (program : List Reached) (m : MemberId) (way : List MemberId) : Type 0 where
-  each_once : IsOnce way
+  each_once : AllPairs (λ (a b : MemberId). ¬ (a ≡ b)) way
   listed : (x : MemberId) → Contains way x → Contains (map (λ (r : Reached). r.method) program) x
   leads : (x : MemberId) → Contains way x → (x ≡ m) ⊎ CallsLead program x m
 
 way_more : (w : World) (first : MemberId) (program : List Reached) (m t : MemberId) (way : List MemberId) → IsProgram w first program → Calls program m t → IsWay program m way → IsWay program t (t ∷ way)
 way_more w first program m t way is calls before = record {
-  each_once = (
-    λ again. elim (before.leads t again) [
-      | inl same ↦ is.no_return m (once (subst (λ (x : MemberId). Calls program m x) same calls))
-      | inr leads ↦ is.no_return m (through calls leads)
-    ],
-    before.each_once,
-  );
-  listed = λ x h. elim (in_cases t x way h) [
+  each_once = AllPairs-cons (λ (a b : MemberId). ¬ (a ≡ b)) t way
+      (λ k d lt again. elim (before.leads t (subst (λ (x : MemberId). Contains way x) (sym again) (Contains-get_or way k d lt))) [
+        | inl same ↦ is.no_return m (once (subst (λ (x : MemberId). Calls program m x) same calls))
+        | inr leads ↦ is.no_return m (through calls leads)
+      ])
+      before.each_once;
+  listed = λ x h. elim (contains_cases t way x h) [
     | inl same ↦ subst (λ (y : MemberId). Contains (map (λ (r : Reached). r.method) program) y) same (is.closed m t calls)
     | inr later ↦ before.listed x later
   ];
-  leads = λ x h. elim (in_cases t x way h) [
+  leads = λ x h. elim (contains_cases t way x h) [
     | inl same ↦ inl (sym same)
     | inr later ↦ elim (before.leads x later) [
       | inl same ↦ inr (once (subst (λ (y : MemberId). Calls program y t) (sym same) calls))
@@ -147,19 +140,19 @@ way_more w first program m t way is calls before = record {
 deep_on : (w : World) (first : MemberId) (program : List Reached) (n : ℕ) (m : MemberId) (way : List MemberId) → IsProgram w first program → IsWay program m way
     → length program < n + length way → IsDeep program n m
 deep_on w first program zero m way is before enough =
-    let short = once_short way (map (λ (r : Reached). r.method) program) before.each_once before.listed in
+    let short = no_longer way (map (λ (r : Reached). r.method) program) before.each_once before.listed in
     absurd (omega (arith, short, enough, length-map program (λ (r : Reached). r.method)))
 deep_on w first program (suc n) m way is before enough = λ t calls.
     deep_on w first program n t (t ∷ way) is (way_more w first program m t way is calls before) (omega (arith, enough))
 
 way_first : (program : List Reached) (m : MemberId) → Contains (map (λ (r : Reached). r.method) program) m → IsWay program m (m ∷ [])
 way_first program m listed = record {
-  each_once = (λ again. in_nothing m again, tt);
-  listed = λ x h. elim (in_cases m x [] h) [
+  each_once = λ i j d lt within. absurd (omega (arith, lt, within));
+  listed = λ x h. elim (contains_cases m [] x h) [
     | inl same ↦ subst (λ (y : MemberId). Contains (map (λ (r : Reached). r.method) program) y) same listed
-    | inr later ↦ absurd (in_nothing x later)
+    | inr later ↦ absurd (contains_none x later)
   ];
-  leads = λ x h. elim (in_cases m x [] h) [ inl same ↦ inl (sym same) | inr later ↦ absurd (in_nothing x later) ];
+  leads = λ x h. elim (contains_cases m [] x h) [ inl same ↦ inl (sym same) | inr later ↦ absurd (contains_none x later) ];
 }
 
 -- in a program calls are nested less deep than it has methods

@@ -5,6 +5,7 @@ use Rattle.std.proofs.lemmas.Bool.Decides.{nat_tests}
 use Rattle.std.proofs.lemmas.List.{drop_all}
 use Rattle.std.specs.Ordering.{nat_cmp, ord_max}
 use Rattle.std.proofs.lemmas.Grind.{common_steps}
+use Rattle.common_laws.proofs.Parts.{drop_next}
 use Rattle.op_table.specs.Actions.{action_of}
 use Rattle.world.specs.declared.member.MemberId.{MemberId}
 use Rattle.code_flow.specs.declared.program.Planned.{Planned}
@@ -29,16 +30,11 @@ greatest_nothing = refl
 pub most_is : (a b : ℕ) → ord_max nat_cmp a b ≡ max a b
 most_is a b = grind (arith, common_steps)
 
-front_of : {X : Type 0} (xs : List X) (i : ℕ) (x d : X) → i < length xs → x ≡ get_or xs i d → drop i xs ≡ x ∷ drop (i + 1) xs
-front_of {X = X} xs i x d inside at =
-    let next : suc i ≡ i + 1 = omega arith in
-    drop-cons xs i d inside ∙ ap (λ (y : X). y ∷ drop (suc i) xs) (sym at) ∙ ap (λ (n : ℕ). x ∷ drop n xs) next
-
 pub greatest_step : (f : MemberId → ℕ) (ms : List MemberId) (i : ℕ) (m d : MemberId) (best cost now total : ℕ) → i < length ms → m ≡ get_or ms i d → cost ≡ f m → now ≡ max best cost
     → max best (greatest (map f (drop i ms))) ≡ total → max now (greatest (map f (drop (i + 1) ms))) ≡ total
 greatest_step f ms i m d best cost now total inside at is most before =
     let rest : ℕ = greatest (map f (drop (i + 1) ms)) in
-    let split : greatest (map f (drop i ms)) ≡ max (f m) rest = ap (λ (xs : List MemberId). greatest (map f xs)) (front_of ms i m d inside at) ∙ greatest_cons (f m) (map f (drop (i + 1) ms)) in
+    let split : greatest (map f (drop i ms)) ≡ max (f m) rest = ap (λ (xs : List MemberId). greatest (map f xs)) (drop_next ms i m d inside at) ∙ greatest_cons (f m) (map f (drop (i + 1) ms)) in
     omega (arith, is, most, before, split)
 
 pub greatest_end : (f : MemberId → ℕ) (ms : List MemberId) (i best total : ℕ) → length ms ≤ i → max best (greatest (map f (drop i ms))) ≡ total → best ≡ total
@@ -86,7 +82,7 @@ code_nothing w f = refl
 
 code_here : (w : ℕ → ℕ) (f : MemberId → ℕ) (is : List Planned) (k : ℕ) (i d : Planned) (b : Bool) → k < length is → i ≡ get_or is k d → is_end (action_of i.instr) ≡ b
     → cost_of_code w f (drop k is) ≡ cost_of_instruction w f i + rest_of b (cost_of_code w f (drop (k + 1) is))
-code_here w f is k i d b inside at e = ap (cost_of_code w f) (front_of is k i d inside at) ∙ code_cons w f i (drop (k + 1) is) b e
+code_here w f is k i d b inside at e = ap (cost_of_code w f) (drop_next is k i d inside at) ∙ code_cons w f i (drop (k + 1) is) b e
 
 -- the cost so far, with what is left
 abbrev pub IsSoFar : (ℕ → ℕ) → (MemberId → ℕ) → List Planned → ℕ → ℕ → Type 0

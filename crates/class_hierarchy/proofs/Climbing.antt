@@ -1,55 +1,36 @@
 -- Climbing from one superinterface to the next, and what is found on the way.
 use Rattle.std.proofs.Common.{◌≡◌, ◌≢◌, inl, inr, ℕ, zero, suc, ◌<◌, ◌≤◌, Bool, true, false, not, ◌||◌, List, [], ◌∷◌, ◌++◌, length, slice_get, Option, Some, None, if◌then◌else◌, arith, refl, sym, ap, subst, ◌∙◌, nat_eq, append_assoc, append-nil, true≢false}
 use Rattle.std.specs.List.{list_any, flat_map}
-use Rattle.std.proofs.lemmas.Bool.{eqb-true, eq-eqb}
-use Rattle.std.proofs.lemmas.Bool.Decides.{eqb_tells}
+use Rattle.std.proofs.lemmas.Bool.{eq-eqb, ne_eqb}
 use Rattle.indexmap.specs.IndexSet.{insert_key}
+use Rattle.common_laws.proofs.Numbers.{head_listed, one_listed, flat_listed, listed_flat}
+use Rattle.common_laws.proofs.Tests.{any_left, any_right, any_either}
 use Rattle.class_hierarchy.specs.World.{World, interfaces, above_by, above}
 use Rattle.class_hierarchy.specs.Building.{LeadsTo, IsCyclic, supers, IsWellBuilt}
 use Rattle.class_hierarchy.specs.Building.LeadsTo.{once, through}
 use Rattle.class_hierarchy.specs.Tables.{SameFirst, row_at, with_above, HasRow, Shows, IsClosed, IsMet, IsOpenAt}
 use Rattle.class_hierarchy.specs.Tables.{IsHierarchy}
 use Rattle.class_hierarchy.specs.Tables.IsMet.{done, last, below}
-use Rattle.class_hierarchy.proofs.First.{or_true, same_self, same_trans, same_append, same_members}
+use Rattle.class_hierarchy.proofs.First.{same_self, same_trans, same_append, same_members}
 use Rattle.class_hierarchy.proofs.First.{any_same}
 use Rattle.class_hierarchy.proofs.WellBuilt.{above_whole, above_goes, interface_step}
-use Rattle.class_hierarchy.proofs.Exploring.{leads_on, in_either, in_left, in_right}
+use Rattle.class_hierarchy.proofs.Exploring.{leads_on}
 
 -- ---- members
-
-is_own : (d : ℕ) → list_any (nat_eq d) (d ∷ []) ≡ true
-is_own d = rw (eq-eqb d d refl) refl
-
-is_only : (d c : ℕ) → list_any (nat_eq d) (c ∷ []) ≡ true → d ≡ c
-is_only d c h = elim (or_true (nat_eq d c) false h) [ inl e ↦ eqb-true d c e | inr e ↦ absurd cc ]
-
-in_flat : (d : ℕ) (f : ℕ → List ℕ) (xs : List ℕ) (j : ℕ) → list_any (nat_eq j) xs ≡ true → list_any (nat_eq d) (f j) ≡ true → list_any (nat_eq d) (flat_map f xs) ≡ true
-in_flat d f [] j h k = absurd cc
-in_flat d f (x ∷ xs) j h k = elim (or_true (nat_eq j x) (list_any (nat_eq j) xs) h) [
-  | inl here ↦ in_left d (f x) (flat_map f xs) (subst (λ y. list_any (nat_eq d) (f y) ≡ true) (eqb-true j x here) k)
-  | inr later ↦ in_right d (f x) (flat_map f xs) (in_flat d f xs j later k)
-]
-
-of_flat : (d : ℕ) (f : ℕ → List ℕ) (xs : List ℕ) → list_any (nat_eq d) (flat_map f xs) ≡ true → (j : ℕ) × (list_any (nat_eq j) xs ≡ true) × (list_any (nat_eq d) (f j) ≡ true)
-of_flat d f [] h = absurd cc
-of_flat d f (x ∷ xs) h = elim (in_either d (f x) (flat_map f xs) h) [
-  | inl here ↦ (x, in_left x (x ∷ []) xs (is_own x), here)
-  | inr later ↦ let p = of_flat d f xs later in (p.0, in_right p.0 (x ∷ []) xs p.1, p.2)
-]
 
 -- ---- all above what is above stands above
 
 in_above : (w : World) → IsWellBuilt w → (d c i : ℕ) → list_any (nat_eq i) (interfaces w c) ≡ true → list_any (nat_eq d) (with_above w i) ≡ true → list_any (nat_eq d) (above w c) ≡ true
-in_above w built d c i step h = rw (above_whole w built c) (in_flat d (with_above w) (interfaces w c) i step h)
+in_above w built d c i step h = rw (above_whole w built c) (flat_listed d (with_above w) (interfaces w c) i step h)
 
 above_on_by : (w : World) → IsWellBuilt w → (n i c d : ℕ) → list_any (nat_eq c) (above_by w n i) ≡ true → list_any (nat_eq d) (above w c) ≡ true → list_any (nat_eq d) (above w i) ≡ true
 unfolding above_by
 above_on_by w built zero i c d h k = absurd cc
 above_on_by w built (suc n) i c d h k =
-    let p = of_flat c (λ j. j ∷ above_by w n j) (interfaces w i) h in
-    in_above w built d i p.0 p.1 (elim (in_either c (p.0 ∷ []) (above_by w n p.0) p.2) [
-      | inl here ↦ in_right d (p.0 ∷ []) (above w p.0) (subst (λ x. list_any (nat_eq d) (above w x) ≡ true) (is_only c p.0 here) k)
-      | inr higher ↦ in_right d (p.0 ∷ []) (above w p.0) (above_on_by w built n p.0 c d higher k)
+    let p = listed_flat c (λ j. j ∷ above_by w n j) (interfaces w i) h in
+    in_above w built d i p.0 p.1 (elim (any_either (nat_eq c) (p.0 ∷ []) (above_by w n p.0) p.2) [
+      | inl here ↦ any_right (nat_eq d) (p.0 ∷ []) (above w p.0) (subst (λ x. list_any (nat_eq d) (above w x) ≡ true) (one_listed c p.0 here) k)
+      | inr higher ↦ any_right (nat_eq d) (p.0 ∷ []) (above w p.0) (above_on_by w built n p.0 c d higher k)
     ])
 
 above_on : (w : World) → IsWellBuilt w → (i c d : ℕ) → list_any (nat_eq c) (above w i) ≡ true → list_any (nat_eq d) (above w c) ≡ true → list_any (nat_eq d) (above w i) ≡ true
@@ -72,31 +53,31 @@ closed_same w xs ys same closed c d h k =
     any_same (nat_eq d) xs ys same ∙ closed c d (sym (any_same (nat_eq c) xs ys same) ∙ h) k
 
 above_with : (w : World) → IsWellBuilt w → (i c d : ℕ) → list_any (nat_eq c) (with_above w i) ≡ true → list_any (nat_eq d) (above w c) ≡ true → list_any (nat_eq d) (above w i) ≡ true
-above_with w built i c d h k = elim (in_either c (i ∷ []) (above w i) h) [
-  | inl here ↦ subst (λ x. list_any (nat_eq d) (above w x) ≡ true) (is_only c i here) k
+above_with w built i c d h k = elim (any_either (nat_eq c) (i ∷ []) (above w i) h) [
+  | inl here ↦ subst (λ x. list_any (nat_eq d) (above w x) ≡ true) (one_listed c i here) k
   | inr higher ↦ above_on w built i c d higher k
 ]
 
 -- what stands above a closed list and a class with all above it is among them
 pub closed_with : (w : World) → IsWellBuilt w → (xs : List ℕ) (i : ℕ) → IsClosed w xs → IsClosed w (xs ++ with_above w i)
-closed_with w built xs i closed c d h k = elim (in_either c xs (with_above w i) h) [
-  | inl old ↦ in_left d xs (with_above w i) (closed c d old k)
-  | inr new ↦ in_right d xs (with_above w i) (in_right d (i ∷ []) (above w i) (above_with w built i c d new k))
+closed_with w built xs i closed c d h k = elim (any_either (nat_eq c) xs (with_above w i) h) [
+  | inl old ↦ any_left (nat_eq d) xs (with_above w i) (closed c d old k)
+  | inr new ↦ any_right (nat_eq d) xs (with_above w i) (any_right (nat_eq d) (i ∷ []) (above w i) (above_with w built i c d new k))
 ]
 
 -- a class that is there has all that stands above it there
 pub there_already : (w : World) (xs : List ℕ) (i : ℕ) → IsClosed w xs → list_any (nat_eq i) xs ≡ true → SameFirst xs (xs ++ with_above w i)
-there_already w xs i closed there = same_members xs (with_above w i) (λ d h. elim (in_either d (i ∷ []) (above w i) h) [
-  | inl here ↦ subst (λ x. list_any (nat_eq x) xs ≡ true) (sym (is_only d i here)) there
+there_already w xs i closed there = same_members xs (with_above w i) (λ d h. elim (any_either (nat_eq d) (i ∷ []) (above w i) h) [
+  | inl here ↦ subst (λ x. list_any (nat_eq x) xs ≡ true) (sym (one_listed d i here)) there
   | inr higher ↦ closed i d there higher
 ])
 
 -- ---- what is added
 
 pub open_new : (w : World) (xs : List ℕ) (i : ℕ) → IsClosed w xs → IsOpenAt w (xs ++ i ∷ []) i
-open_new w xs i closed c h = elim (in_either c xs (i ∷ []) h) [
-  | inl old ↦ done (λ d k. in_left d xs (i ∷ []) (closed c d old k))
-  | inr new ↦ last (is_only c i new)
+open_new w xs i closed c h = elim (any_either (nat_eq c) xs (i ∷ []) h) [
+  | inl old ↦ done (λ d k. any_left (nat_eq d) xs (i ∷ []) (closed c d old k))
+  | inr new ↦ last (one_listed c i new)
 ]
 
 pub with_new : (w : World) (xs zs : List ℕ) (i : ℕ) → SameFirst zs ((xs ++ i ∷ []) ++ above w i) → SameFirst zs (xs ++ with_above w i)
@@ -181,7 +162,7 @@ one_above_by : (w : World) (n c i : ℕ) → interfaces w c ≡ i ∷ [] → abo
 one_above_by w n c i e = above_goes w n c ∙ ap (λ l. flat_map (λ j. j ∷ above_by w n j) l) e ∙ one_flat (above_by w n) i
 
 one_step : (w : World) (c i : ℕ) → interfaces w c ≡ i ∷ [] → list_any (nat_eq i) (supers w c) ≡ true
-one_step w c i e = interface_step w c i (rw e (is_own i))
+one_step w c i e = interface_step w c i (rw e (head_listed i []))
 
 shows_next : (w : World) (links rows : List (List ℕ)) (c i : ℕ) → list_any (nat_eq i) (supers w c) ≡ true → Shows w links rows c → Shows w links rows i
 shows_next w links rows c i step h = record {
@@ -200,14 +181,14 @@ direct_above w links rows c direct found new h e same =
     subst (λ l. SameFirst new (found ++ l)) (ap (λ l. flat_map (with_above w) l) (e ∙ h.are_links.1 c) ∙ sym (above_whole w h.well_built c)) same
 
 met_next : (w : World) (found : List ℕ) (at i c : ℕ) → list_any (nat_eq i) (supers w at) ≡ true → IsMet w found at c → IsMet w (found ++ i ∷ []) i c
-met_next w found at i c step (done h) = done (λ d k. in_left d found (i ∷ []) (h d k))
+met_next w found at i c step (done h) = done (λ d k. any_left (nat_eq d) found (i ∷ []) (h d k))
 met_next w found at i c step (last e) = below (subst (λ x. LeadsTo (supers w) x i) (sym e) (once step))
 met_next w found at i c step (below lead) = below (leads_on (supers w) c at i lead step)
 
 open_next : (w : World) (found : List ℕ) (at i : ℕ) → list_any (nat_eq i) (supers w at) ≡ true → IsOpenAt w found at → IsOpenAt w (found ++ i ∷ []) i
-open_next w found at i step met c h = elim (in_either c found (i ∷ []) h) [
+open_next w found at i step met c h = elim (any_either (nat_eq c) found (i ∷ []) h) [
   | inl old ↦ met_next w found at i c step (met c old)
-  | inr new ↦ last (is_only c i new)
+  | inr new ↦ last (one_listed c i new)
 ]
 
 joined : (found ys zs all : List ℕ) (i : ℕ) → ys ≡ i ∷ zs → SameFirst (found ++ ys) all → SameFirst ((found ++ i ∷ []) ++ zs) all
@@ -236,8 +217,8 @@ climbs_there w links rows all n at i found only there h =
     let direct : interfaces w at ≡ i ∷ [] = sym (h.shows.are_links.1 at) ∙ only in
     let built = h.shows.well_built in
     let all_there = met_done w found at i built.no_cycle (one_step w at i direct) (h.met i there) in
-    let same : SameFirst found (found ++ above w at) = same_members found (above w at) (λ d k. elim (in_either d (i ∷ []) (above w i) (subst (λ l. list_any (nat_eq d) l ≡ true) (one_above w built at i direct) k)) [
-      | inl here ↦ subst (λ x. list_any (nat_eq x) found ≡ true) (sym (is_only d i here)) there
+    let same : SameFirst found (found ++ above w at) = same_members found (above w at) (λ d k. elim (any_either (nat_eq d) (i ∷ []) (above w i) (subst (λ l. list_any (nat_eq d) l ≡ true) (one_above w built at i direct) k)) [
+      | inl here ↦ subst (λ x. list_any (nat_eq x) found ≡ true) (sym (one_listed d i here)) there
       | inr higher ↦ all_there d higher
     ]) in
     same_trans found (found ++ above w at) all same h.whole
@@ -263,15 +244,9 @@ looks_here w d r n at i built e same h =
     let here : nat_eq d i ≡ true = eq-eqb d i same in
     sym (ap (λ l. list_any (nat_eq d) l) (one_above w built at i e) ∙ ap (λ b. b || list_any (nat_eq d) (above w i)) here) ∙ h.whole
 
-unlike : (d i : ℕ) → d ≢ i → nat_eq d i ≡ false
-unlike d i other = elim (eqb_tells d i) [
-  | inl same ↦ absurd (other same.1)
-  | inr apart ↦ apart.0
-]
-
 pub looks_next : (w : World) (d : ℕ) (r : Bool) (n m at i : ℕ) → IsWellBuilt w → n ≡ suc m → interfaces w at ≡ i ∷ [] → d ≢ i → Looks w d r n at → Looks w d r m i
 looks_next w d r n m at i built less e other h =
-    let miss : nat_eq d i ≡ false = unlike d i other in
+    let miss : nat_eq d i ≡ false = ne_eqb d i other in
     record {
       whole = sym (ap (λ l. list_any (nat_eq d) l) (one_above w built at i e) ∙ ap (λ b. b || list_any (nat_eq d) (above w i)) miss) ∙ h.whole;
       left = sym (ap (λ k. list_any (nat_eq d) (above_by w k at)) less ∙ ap (λ l. list_any (nat_eq d) l) (one_above_by w m at i e) ∙ ap (λ b. b || list_any (nat_eq d) (above_by w m i)) miss) ∙ h.left;

@@ -1,15 +1,15 @@
 -- Classes that lead back to themselves.
-use Rattle.std.proofs.Common.{◌≡◌, inl, inr, ℕ, ◌<◌, true, false, List, [], ◌∷◌, length, Option, Some, None, refl, sym, nat_eq}
+use Rattle.std.proofs.Common.{◌≡◌, inl, inr, ℕ, ◌<◌, true, List, [], ◌∷◌, length, Option, Some, None, refl, sym, nat_eq}
 use Rattle.std.specs.Prelude.{IfSome}
 use Rattle.std.specs.Option.{option_and_then, option_to_list}
 use Rattle.std.specs.List.{list_any, filter_map, cons_option}
-use Rattle.std.proofs.lemmas.Bool.{eqb-true}
+use Rattle.std.proofs.lemmas.Bool.{eqb-true, or_cases}
 use Rattle.std.proofs.lemmas.List.Quantifiers.{position-Some}
+use Rattle.common_laws.proofs.Numbers.{one_listed}
+use Rattle.common_laws.proofs.Tests.{any_either}
 use Rattle.class_hierarchy.specs.World.{World, object_class, is_named, number_of, class_at, superclass, interfaces}
 use Rattle.class_hierarchy.specs.Building.{LeadsTo, supers}
 use Rattle.class_hierarchy.specs.Building.LeadsTo.{once, through}
-use Rattle.class_hierarchy.proofs.First.{or_true}
-use Rattle.class_hierarchy.proofs.Exploring.{in_either}
 
 pub number_below : (w : World) (name : List ℕ) (i : ℕ) → number_of w name ≡ Some i → i < length w
 unfolding number_of
@@ -21,11 +21,7 @@ number_bound w name (Some i) e = number_below w name i (sym e)
 
 listed_below : (n : ℕ) (o : Option ℕ) → ((i : ℕ) → o ≡ Some i → i < n) → (d : ℕ) → list_any (nat_eq d) (option_to_list o) ≡ true → d < n
 listed_below n None h d e = absurd cc
-listed_below n (Some i) h d e =
-    elim (or_true (nat_eq d i) false e) [
-      | inl same ↦ rw (eqb-true d i same) (h i refl)
-      | inr never ↦ absurd cc
-    ]
+listed_below n (Some i) h d e = rw (one_listed d i e) (h i refl)
 
 named_below : (w : World) (o : Option (List ℕ)) (i : ℕ) → option_and_then (number_of w) o ≡ Some i → i < length w
 named_below w None i e = absurd cc
@@ -38,7 +34,7 @@ superclass_below w c i e = named_below w (class_at w c).super_name i e
 one_below : (w : World) (o : Option ℕ) (rest : List ℕ) → ((i : ℕ) → o ≡ Some i → i < length w) → ((d : ℕ) → list_any (nat_eq d) rest ≡ true → d < length w) → (d : ℕ) → list_any (nat_eq d) (cons_option o rest) ≡ true → d < length w
 one_below w None rest h k d e = k d e
 one_below w (Some i) rest h k d e =
-    elim (or_true (nat_eq d i) (list_any (nat_eq d) rest) e) [
+    elim (or_cases (nat_eq d i) (list_any (nat_eq d) rest) e) [
       | inl same ↦ rw (eqb-true d i same) (h i refl)
       | inr later ↦ k d later
     ]
@@ -54,7 +50,7 @@ interfaces_below w c d e = names_below w (class_at w c).interfaces d e
 pub supers_below : (w : World) (c d : ℕ) → list_any (nat_eq d) (supers w c) ≡ true → d < length w
 unfolding supers
 supers_below w c d e =
-    elim (in_either d (option_to_list (superclass w c)) (interfaces w c) e) [
+    elim (any_either (nat_eq d) (option_to_list (superclass w c)) (interfaces w c) e) [
       | inl left ↦ listed_below (length w) (superclass w c) (superclass_below w c) d left
       | inr right ↦ interfaces_below w c d right
     ]

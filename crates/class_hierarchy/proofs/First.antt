@@ -1,25 +1,19 @@
 -- Lists with the same first element for each test.
-use Rattle.std.proofs.Common.{◌≡◌, ◌⊎◌, ◌||◌, inl, inr, ℕ, ◌+◌, ◌<◌, Bool, true, false, List, [], ◌∷◌, ◌++◌, length, take, Option, Some, None, arith, cond, refl, sym, ap, ◌∙◌, nat_eq, append_assoc, append-nil, get_or, if◌then◌else◌}
+use Rattle.std.proofs.Common.{◌≡◌, ℕ, ◌+◌, ◌<◌, Bool, true, false, List, [], ◌∷◌, ◌++◌, length, take, Option, Some, None, arith, refl, sym, ap, ◌∙◌, nat_eq, append_assoc, append-nil, get_or, if◌then◌else◌}
 use Rattle.std.specs.Prelude.{find, is_some}
 use Rattle.std.specs.Option.{option_or}
 use Rattle.std.specs.List.{flat_map, list_any}
-use Rattle.std.proofs.lemmas.Bool.{eqb-true, eq-eqb}
-use Rattle.std.proofs.lemmas.Bool.Decides.{eqb_tells}
+use Rattle.std.proofs.lemmas.Bool.{eq-eqb, or_right}
 use Rattle.std.proofs.lemmas.Grind.{common_steps}
 use Rattle.indexmap.specs.IndexSet.{insert_key}
+use Rattle.std.proofs.lemmas.List.Folds.{find-append}
+use Rattle.common_laws.proofs.Numbers.{listed_contains}
+use Rattle.common_laws.proofs.Tests.{any_find, find_misses}
 use Rattle.class_hierarchy.specs.Tables.{SameFirst}
-
-pub find_append : {A : Type 0} (p : A → Bool) (xs ys : List A) → find p (xs ++ ys) ≡ option_or (find p xs) (find p ys)
-find_append p [] ys = refl
-find_append p (x ∷ xs) ys =
-    elim (p x) as (λ b. cond b (Some x) (find p (xs ++ ys)) ≡ option_or (cond b (Some x) (find p xs)) (find p ys)) [
-      | true ↦ refl
-      | false ↦ find_append p xs ys
-    ]
 
 pub same_append : (a b c d : List ℕ) → SameFirst a b → SameFirst c d → SameFirst (a ++ c) (b ++ d)
 same_append a b c d f g = record {
-  same = λ p. find_append p a c ∙ ap (λ o. option_or o (find p c)) (f.same p) ∙ ap (λ o. option_or (find p b) o) (g.same p) ∙ sym (find_append p b d);
+  same = λ p. find-append p a c ∙ ap (λ o. option_or o (find p c)) (f.same p) ∙ ap (λ o. option_or (find p b) o) (g.same p) ∙ sym (find-append p b d);
 }
 
 pub same_self : (a : List ℕ) → SameFirst a a
@@ -30,36 +24,9 @@ same_trans a b c f g = record { same = λ p. f.same p ∙ g.same p }
 
 -- ---- tests
 
-pub or_true : (a b : Bool) → (a || b) ≡ true → (a ≡ true) ⊎ (b ≡ true)
-or_true true b e = inl refl
-or_true false b e = inr e
-
-or_later : (a b : Bool) → b ≡ true → (a || b) ≡ true
-or_later true b h = refl
-or_later false b h = h
-
-pub none_head : {A : Type 0} (b : Bool) (x : A) (r : Option A) → cond b (Some x) r ≡ None → (b ≡ false) × (r ≡ None)
-none_head true x r e = absurd cc
-none_head false x r e = (refl, e)
-
--- a member again changes no first one
-member_found : (y : ℕ) (xs : List ℕ) (p : ℕ → Bool) → list_any (λ x. nat_eq x y) xs ≡ true → find p xs ≡ None → p y ≡ false
-member_found y [] p there none = absurd cc
-member_found y (x ∷ xs) p there none =
-    let parts = none_head (p x) x (find p xs) none in
-    elim (or_true (nat_eq x y) (list_any (λ x. nat_eq x y) xs) there) [
-      | inl e ↦ ap p (sym (eqb-true x y e)) ∙ parts.0
-      | inr e ↦ member_found y xs p e parts.1
-    ]
-
 or_miss : (o : Option ℕ) (y : ℕ) (p : ℕ → Bool) → (o ≡ None → p y ≡ false) → option_or o (find p (y ∷ [])) ≡ o
 or_miss (Some x) y p h = refl
 or_miss None y p h = rw (h refl) refl
-
-pub same_member : (y : ℕ) (xs : List ℕ) → list_any (λ x. nat_eq x y) xs ≡ true → SameFirst xs (xs ++ y ∷ [])
-same_member y xs there = record {
-  same = λ p. sym (find_append p xs (y ∷ []) ∙ or_miss (find p xs) y p (member_found y xs p there));
-}
 
 -- ---- what is added
 
@@ -77,29 +44,17 @@ same_next f a zs xs i h g k = rw (flat_next f xs i h) (same_trans zs (a ++ f (ge
 
 -- ---- more members
 
-eqb_sym : (x y : ℕ) → nat_eq x y ≡ nat_eq y x
-eqb_sym x y =
-    elim (eqb_tells x y) [
-      | inl same ↦ same.0 ∙ sym (eq-eqb y x (sym same.1))
-      | inr apart ↦ elim (eqb_tells y x) [
-        | inl same ↦ absurd (apart.1 (sym same.1))
-        | inr other ↦ apart.0 ∙ sym other.0
-      ]
-    ]
-
-other_way : (y : ℕ) (xs : List ℕ) → list_any (λ x. nat_eq x y) xs ≡ list_any (nat_eq y) xs
-other_way y [] = refl
-other_way y (x ∷ xs) = rw (eqb_sym x y, other_way y xs) refl
-
 same_listed : (y : ℕ) (xs : List ℕ) → list_any (nat_eq y) xs ≡ true → SameFirst xs (xs ++ y ∷ [])
-same_listed y xs there = same_member y xs (other_way y xs ∙ there)
+same_listed y xs there = record {
+  same = λ p. sym (find-append p xs (y ∷ []) ∙ or_miss (find p xs) y p (λ none. find_misses p xs y none (listed_contains y xs there)));
+}
 
 -- members again change no first one
 pub same_members : (xs ys : List ℕ) → ((d : ℕ) → list_any (nat_eq d) ys ≡ true → list_any (nat_eq d) xs ≡ true) → SameFirst xs (xs ++ ys)
 same_members xs [] h = rw (append-nil xs) (same_self xs)
 same_members xs (y ∷ ys) h =
     let here : list_any (nat_eq y) xs ≡ true = h y (rw (eq-eqb y y refl) refl) in
-    let rest : SameFirst xs (xs ++ ys) = same_members xs ys (λ d k. h d (or_later (nat_eq d y) (list_any (nat_eq d) ys) k)) in
+    let rest : SameFirst xs (xs ++ ys) = same_members xs ys (λ d k. h d (or_right (nat_eq d y) (list_any (nat_eq d) ys) k)) in
     rw (← append_assoc xs (y ∷ []) ys) (same_trans xs (xs ++ ys) ((xs ++ y ∷ []) ++ ys) rest (same_append xs (xs ++ y ∷ []) ys ys (same_listed y xs here) (same_self ys)))
 
 insert_by : (b : Bool) (xs zs : List ℕ) (y : ℕ) → list_any (nat_eq y) xs ≡ b → zs ≡ (if b then xs else xs ++ y ∷ []) → SameFirst zs (xs ++ y ∷ [])
@@ -111,10 +66,6 @@ insert_same xs zs y e = insert_by (list_any (nat_eq y) xs) xs zs y refl e
 
 pub each_next : (f : ℕ → List ℕ) (a b zs xs : List ℕ) (i : ℕ) → i < length xs → SameFirst a (b ++ flat_map f (take i xs)) → SameFirst zs (a ++ f (get_or xs i 0)) → SameFirst zs (b ++ flat_map f (take (i + 1) xs))
 each_next f a b zs xs i h g k = rw (flat_next f xs i h) (add_more a b (flat_map f (take i xs)) (f (get_or xs i 0)) zs g k)
-
-any_find : (p : ℕ → Bool) (xs : List ℕ) → list_any p xs ≡ is_some (find p xs)
-any_find p [] = refl
-any_find p (x ∷ xs) = elim (p x) as (λ b. (b || list_any p xs) ≡ is_some (cond b (Some x) (find p xs))) [ true ↦ refl | false ↦ any_find p xs ]
 
 pub any_same : (p : ℕ → Bool) (xs ys : List ℕ) → SameFirst xs ys → list_any p xs ≡ list_any p ys
 any_same p xs ys h = any_find p xs ∙ ap (λ o. is_some o) (h.same p) ∙ sym (any_find p ys)

@@ -1,29 +1,19 @@
 -- What stands above a class is there.
-use Rattle.std.proofs.Common.{◌≡◌, inl, inr, ℕ, zero, suc, ◌<◌, Bool, true, false, ◌||◌, List, [], ◌∷◌, length, Option, Some, None, refl, nat_eq}
+use Rattle.std.proofs.Common.{◌≡◌, inl, inr, ℕ, zero, suc, ◌<◌, true, List, [], ◌∷◌, length, Option, Some, None, refl, nat_eq}
 use Rattle.std.specs.List.{list_any, flat_map}
-use Rattle.std.proofs.lemmas.Bool.{eqb-true, eq-eqb}
+use Rattle.std.proofs.lemmas.Bool.{eqb-true, or_cases}
+use Rattle.common_laws.proofs.Numbers.{head_listed, tail_listed}
+use Rattle.common_laws.proofs.Tests.{any_either}
 use Rattle.class_hierarchy.specs.World.{World, superclass, interfaces, line, line_from, above, above_by, superinterfaces}
-use Rattle.class_hierarchy.proofs.First.{or_true}
-use Rattle.class_hierarchy.proofs.Exploring.{in_either}
 use Rattle.class_hierarchy.proofs.Cycles.{superclass_below, interfaces_below}
 
 -- each number is one of a class
 abbrev pub AreClasses : World → List ℕ → Type 0
 AreClasses w cs = (d : ℕ) → list_any (nat_eq d) cs ≡ true → d < length w
 
-pub or_yes : (a b : Bool) → b ≡ true → (a || b) ≡ true
-or_yes true b h = refl
-or_yes false b h = h
-
-pub head_in : (x : ℕ) (xs : List ℕ) → list_any (nat_eq x) (x ∷ xs) ≡ true
-head_in x xs = rw (eq-eqb x x refl) refl
-
-pub tail_in : (b x : ℕ) (xs : List ℕ) → list_any (nat_eq b) xs ≡ true → list_any (nat_eq b) (x ∷ xs) ≡ true
-tail_in b x xs h = or_yes (nat_eq b x) (list_any (nat_eq b) xs) h
-
 pub more_below : (w : World) (c : ℕ) (cs : List ℕ) → c < length w → AreClasses w cs → AreClasses w (c ∷ cs)
 more_below w c cs h k d e =
-    elim (or_true (nat_eq d c) (list_any (nat_eq d) cs) e) [
+    elim (or_cases (nat_eq d c) (list_any (nat_eq d) cs) e) [
       | inl same ↦ rw (eqb-true d c same) h
       | inr later ↦ k d later
     ]
@@ -34,9 +24,9 @@ none_below w d e = absurd cc
 pub flat_below : (w : World) (f : ℕ → List ℕ) → ((x : ℕ) → x < length w → AreClasses w (f x)) → (xs : List ℕ) → AreClasses w xs → AreClasses w (flat_map f xs)
 flat_below w f h [] k = none_below w
 flat_below w f h (x ∷ xs) k = λ d e.
-    elim (in_either d (f x) (flat_map f xs) e) [
-      | inl left ↦ h x (k x (head_in x xs)) d left
-      | inr right ↦ flat_below w f h xs (λ b i. k b (tail_in b x xs i)) d right
+    elim (any_either (nat_eq d) (f x) (flat_map f xs) e) [
+      | inl left ↦ h x (k x (head_listed x xs)) d left
+      | inr right ↦ flat_below w f h xs (λ b i. k b (tail_listed b x xs i)) d right
     ]
 
 pub line_below : (w : World) (n : ℕ) (o : Option ℕ) → ((i : ℕ) → o ≡ Some i → i < length w) → AreClasses w (line_from w n o)

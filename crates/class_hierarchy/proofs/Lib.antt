@@ -1,4 +1,3 @@
-pub mod Places
 pub mod First
 pub mod FirstNumber
 pub mod Rows

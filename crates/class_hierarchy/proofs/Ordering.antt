@@ -1,13 +1,15 @@
 -- Classes behind all that they name, and rows of what stands above each class.
-use Rattle.std.proofs.Common.{◌≡◌, ◌≢◌, inl, inr, ℕ, suc, ◌+◌, ◌<◌, ◌≤◌, true, false, List, [], ◌∷◌, ◌++◌, length, map, take, set, get_or, arith, refl, sym, ap, subst, ◌∙◌, nat_eq}
+use Rattle.std.proofs.Common.{◌≡◌, ◌≢◌, inl, inr, ℕ, ◌+◌, ◌<◌, ◌≤◌, true, List, [], ◌∷◌, ◌++◌, length, map, take, set, get_or, arith, refl, sym, ap, subst, ◌∙◌, nat_eq}
 use Rattle.std.specs.Prelude.{All}
 use Rattle.std.specs.List.Sorted.{IsPermutation, IsNonDecreasingBy}
 use Rattle.std.specs.List.{list_any, flat_map}
-use Rattle.std.proofs.lemmas.Bool.{eqb-true, cases_lt, cases_eq}
+use Rattle.std.proofs.lemmas.Bool.{cases_lt, cases_eq}
 use Rattle.std.proofs.Math.ListN.{get_or-map}
 use Rattle.std.proofs.lemmas.List.{take_all, get_or-take, length-map, length-set, get_or-set_same, get_or-set_other, get_or_default}
 use Rattle.std.proofs.lemmas.Grind.{common_steps}
 use Rattle.std.proofs.lemmas.List.Sorted.{All-permutation, Contains-permutation, length_permutation}
+use Rattle.common_laws.proofs.Numbers.{place_listed, listed_place, one_listed}
+use Rattle.common_laws.proofs.Tests.{any_either}
 use Rattle.class_hierarchy.specs.declared.rank.Ranked.{Ranked}
 use Rattle.class_hierarchy.specs.World.{World, interfaces, above}
 use Rattle.class_hierarchy.specs.Building.{LeadsTo, IsWellBuilt, supers}
@@ -15,11 +17,9 @@ use Rattle.class_hierarchy.specs.Building.LeadsTo.{once, through}
 use Rattle.class_hierarchy.specs.Tables.{SameFirst, row_at, with_above, AreLinks, HasRow, AreRows, SetsRow, Shows}
 use Rattle.class_hierarchy.specs.Ranks.{number_in, AreRanks, IsByRank}
 use Rattle.class_hierarchy.specs.Orders.{IsSupersFirst}
-use Rattle.class_hierarchy.proofs.First.{or_true}
 use Rattle.class_hierarchy.proofs.Rows.{none_past}
 use Rattle.class_hierarchy.proofs.Cycles.{supers_below}
 use Rattle.class_hierarchy.proofs.WellBuilt.{above_whole, interface_step}
-use Rattle.class_hierarchy.proofs.Exploring.{in_either, in_place}
 
 -- ---- the order
 
@@ -58,7 +58,7 @@ abbrev first_ranked : Ranked
 first_ranked = record { rank = 0; class = 0 }
 
 placed_in : (xs : List ℕ) (k c : ℕ) → k < length xs → get_or xs k 0 ≡ c → list_any (nat_eq c) xs ≡ true
-placed_in xs k c lt e = subst (λ x. list_any (nat_eq x) xs ≡ true) e (in_place xs k lt)
+placed_in xs k c lt e = subst (λ x. list_any (nat_eq x) xs ≡ true) e (place_listed xs k 0 lt)
 
 taken_at : (xs : List ℕ) (i k : ℕ) → k < i → get_or (take i xs) k 0 ≡ get_or xs k 0
 taken_at xs i k lt = grind (arith, common_steps)
@@ -100,17 +100,10 @@ rows_start w order rows e none = record { count = e; done = λ c there. absurd c
 pub row_inside : (w : World) (order : List ℕ) (rows : List (List ℕ)) (i : ℕ) → IsSupersFirst w order → AreRowsUpTo w order i rows → i < length order → get_or order i 0 < length rows
 row_inside w order rows i o h lt = rw h.count (o.within i lt)
 
-place_of : (d : ℕ) (xs : List ℕ) → list_any (nat_eq d) xs ≡ true → (i : ℕ) × (i < length xs) × (get_or xs i 0 ≡ d)
-place_of d [] h = absurd cc
-place_of d (x ∷ xs) h = elim (or_true (nat_eq d x) (list_any (nat_eq d) xs) h) [
-  | inl here ↦ (0, omega arith, sym (eqb-true d x here))
-  | inr later ↦ let p = place_of d xs later in (suc p.0, omega (arith, p.1), p.2)
-]
-
 -- a place among the first n
 place_taken : (xs : List ℕ) (n c : ℕ) → list_any (nat_eq c) (take n xs) ≡ true → (k : ℕ) × (k < n) × (k < length xs) × (get_or xs k 0 ≡ c)
 place_taken xs n c h =
-    let p = place_of c (take n xs) h in
+    let p = listed_place c (take n xs) 0 h in
     let few : length (take n xs) ≤ n = grind (arith, common_steps) in
     let within : length (take n xs) ≤ length xs = grind (arith, common_steps) in
     let less : p.0 < n = omega (arith, p.1, few) in
@@ -146,9 +139,9 @@ set_at w old new c d sets kept several = elim (cases_eq d c) [
 last_taken : (d : ℕ) (xs : List ℕ) (i : ℕ) → i < length xs → d ≢ get_or xs i 0 → list_any (nat_eq d) (take (i + 1) xs) ≡ true → list_any (nat_eq d) (take i xs) ≡ true
 last_taken d xs i lt other h =
     let more : take (i + 1) xs ≡ take i xs ++ get_or xs i 0 ∷ [] = grind (arith, common_steps) in
-    elim (in_either d (take i xs) (get_or xs i 0 ∷ []) (subst (λ l. list_any (nat_eq d) l ≡ true) more h)) [
+    elim (any_either (nat_eq d) (take i xs) (get_or xs i 0 ∷ []) (subst (λ l. list_any (nat_eq d) l ≡ true) more h)) [
       | inl old ↦ old
-      | inr new ↦ elim (or_true (nat_eq d (get_or xs i 0)) false new) [ inl e ↦ absurd (other (eqb-true d (get_or xs i 0) e)) | inr e ↦ absurd cc ]
+      | inr new ↦ absurd (other (one_listed d (get_or xs i 0) new))
     ]
 
 pub rows_next : (w : World) (order : List ℕ) (i : ℕ) (old new : List (List ℕ)) → i < length order → SetsRow w (get_or order i 0) old new → AreRowsUpTo w order i old → AreRowsUpTo w order (i + 1) new

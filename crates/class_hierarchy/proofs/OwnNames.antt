@@ -3,21 +3,18 @@ use Rattle.std.proofs.Common.{◌≡◌, inl, inr, ℕ, zero, suc, ◌+◌, ◌<
 use Rattle.std.specs.Prelude.{nat_lt, if◌then◌else◌}
 use Rattle.std.proofs.lemmas.Bool.{ltb-false, cases_lt}
 use Rattle.std.specs.List.{position}
-use Rattle.std.specs.Option.{option_or, option_map_or}
+use Rattle.std.specs.Option.{option_map_or}
 use Rattle.std.proofs.lemmas.Slice.Eq.{bytes_eq-Decides}
+use Rattle.common_laws.proofs.Choices.{or_none}
+use Rattle.common_laws.proofs.Positions.{position_hit, position_behind}
 use Rattle.class_reader.specs.declared.class.ClassRecord.{ClassRecord}
 use Rattle.class_hierarchy.specs.declared.fault.WorldFault.{WorldFault}
 use Rattle.class_hierarchy.specs.declared.fault.WorldFault.TheVariants.{Twice}
 use Rattle.class_hierarchy.specs.Building.{first_number, first_class, twice, is_twice}
-use Rattle.class_hierarchy.proofs.Places.{position_hit, position_behind}
 use Rattle.class_hierarchy.specs.World.{World, class_at, object_class, is_named, number_of}
 
 abbrev pub HasNames : World → Type 0
 HasNames w = (a b : ℕ) → a < length w → b < length w → (class_at w a).name ≡ (class_at w b).name → a ≡ b
-
-or_none : (a b : Option WorldFault) → option_or a b ≡ None → (a ≡ None) × (b ≡ None)
-or_none None b h = (refl, h)
-or_none (Some x) b h = absurd cc
 
 pub first_none : (f : ℕ → Option WorldFault) (n c k : ℕ) → first_number f n c ≡ None → c ≤ k → k < c + n → f k ≡ None
 unfolding first_number

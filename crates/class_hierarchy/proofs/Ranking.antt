@@ -1,9 +1,11 @@
 -- Classes that lead back to themselves, by the components of the graph of what they name.
-use Rattle.std.proofs.Common.{◌≡◌, ◌⊎◌, ◌↔◌, inl, inr, ℕ, zero, suc, ◌+◌, ◌<◌, ◌≤◌, Bool, true, false, ◌||◌, List, [], ◌∷◌, ◌++◌, length, take, get_or, Some, None, arith, refl, sym, ap, subst, ◌∙◌, nat_eq, true≢false}
-use Rattle.std.specs.Prelude.{Contains, replicate, slice_index_or}
+use Rattle.std.proofs.Common.{◌≡◌, ◌⊎◌, ◌↔◌, inl, inr, ℕ, zero, suc, ◌+◌, ◌<◌, ◌≤◌, true, false, List, [], ◌∷◌, ◌++◌, length, take, get_or, Some, None, arith, refl, sym, ap, subst, ◌∙◌, nat_eq, true≢false}
+use Rattle.std.specs.Prelude.{replicate, slice_index_or}
 use Rattle.std.specs.List.{list_any}
 use Rattle.std.proofs.lemmas.List.{take_more, take_all, length-replicate}
 use Rattle.std.proofs.lemmas.Bool.{or_left, eqb-true, eq-eqb, cases_lt}
+use Rattle.common_laws.proofs.Numbers.{place_listed, one_listed}
+use Rattle.common_laws.proofs.Tests.{any_in, any_has, any_left, any_right, any_either}
 use Rattle.graph_core.specs.Graphs.{HasEdge, successors_of}
 use Rattle.graph_core.specs.Paths.{Leads, Reaches}
 use Rattle.graph_core.specs.Numbers.{AreComponents}
@@ -12,31 +14,10 @@ use Rattle.class_hierarchy.specs.World.{World}
 use Rattle.class_hierarchy.specs.Building.{LeadsTo, IsCyclic, supers}
 use Rattle.class_hierarchy.specs.Building.LeadsTo.{once, through}
 use Rattle.class_hierarchy.specs.Ranks.{IsGraphBelow, number_in, has_peer, FindsPeer, AreRanks}
-use Rattle.class_hierarchy.proofs.First.{or_true}
 use Rattle.class_hierarchy.proofs.Rows.{no_supers_past}
-use Rattle.class_hierarchy.proofs.Exploring.{in_either, in_left, in_right}
 use Rattle.class_hierarchy.proofs.Cycles.{supers_below, no_step}
 
 -- ---- lists
-
-any_has : (p : ℕ → Bool) (xs : List ℕ) → list_any p xs ≡ true → (d : ℕ) × Contains xs d × (p d ≡ true)
-any_has p [] h = absurd cc
-any_has p (x ∷ xs) h = elim (or_true (p x) (list_any p xs) h) [
-  | inl here ↦ (x, (0, omega arith, refl), here)
-  | inr later ↦ let k = any_has p xs later in (k.0, (suc k.1.0, omega (arith, k.1.1), k.1.2), k.2)
-]
-
-or_right : (a b : Bool) → b ≡ true → (a || b) ≡ true
-or_right true b h = refl
-or_right false b h = h
-
-any_at : (p : ℕ → Bool) (xs : List ℕ) (d k : ℕ) → k < length xs → get_or xs k d ≡ d → p d ≡ true → list_any p xs ≡ true
-any_at p [] d k lt e h = absurd (omega arith)
-any_at p (x ∷ xs) d zero lt e h = let here : p x ≡ true = ap p e ∙ h in rw here refl
-any_at p (x ∷ xs) d (suc k) lt e h = or_right (p x) (list_any p xs) (any_at p xs d k (omega arith) e h)
-
-pub in_any : (p : ℕ → Bool) (xs : List ℕ) (d : ℕ) → Contains xs d → p d ≡ true → list_any p xs ≡ true
-in_any p xs d c h = any_at p xs d c.0 c.1 c.2 h
 
 -- ---- the graph
 
@@ -60,7 +41,7 @@ peer_by w g numbers h k c b lt e back =
     let inside : b < length g = rw h.nodes (supers_below w c b e) in
     let here : c < length g = rw h.nodes lt in
     let same : number_in numbers b ≡ number_in numbers c = (k.together b c inside here).1 (back, Reaches-before g c b b edge (Reaches-itself g b)) in
-    in_any (λ d. nat_eq (number_in numbers d) (number_in numbers c)) (successors_of g c) b edge (eq-eqb (number_in numbers b) (number_in numbers c) same)
+    any_in (λ d. nat_eq (number_in numbers d) (number_in numbers c)) (successors_of g c) b edge (eq-eqb (number_in numbers b) (number_in numbers c) same)
 
 pub cyclic_peer : (w : World) (g : List (List ℕ)) (numbers : List ℕ) → IsGraphBelow w (length w) g → AreComponents g numbers → (c : ℕ) → c < length w → IsCyclic w c → has_peer g numbers c ≡ true
 cyclic_peer w g numbers h k c lt (once e) = peer_by w g numbers h k c c lt e (Reaches-itself g c)
@@ -97,7 +78,7 @@ rises w g numbers h k f c d lt e =
       | inl less ↦ less
       | inr ge ↦
           let same : number_in numbers d ≡ number_in numbers c = omega (arith, le, ge) in
-          absurd (true≢false (sym (in_any (λ x. nat_eq (number_in numbers x) (number_in numbers c)) (successors_of g c) d edge (eq-eqb (number_in numbers d) (number_in numbers c) same)) ∙ f c here))
+          absurd (true≢false (sym (any_in (λ x. nat_eq (number_in numbers x) (number_in numbers c)) (successors_of g c) d edge (eq-eqb (number_in numbers d) (number_in numbers c) same)) ∙ f c here))
     ]
 
 pub ranked : (w : World) (g : List (List ℕ)) (numbers : List ℕ) → IsGraphBelow w (length w) g → AreComponents g numbers → FindsPeer g numbers None → AreRanks w numbers
@@ -105,18 +86,13 @@ ranked w g numbers h k f = record { count = k.count ∙ h.nodes; rise = rises w 
 
 -- ---- one class more, edge by edge
 
-in_list : (xs : List ℕ) (k d : ℕ) → k < length xs → list_any (nat_eq (get_or xs k d)) xs ≡ true
-in_list [] k d lt = absurd (omega arith)
-in_list (x ∷ xs) zero d lt = rw (eq-eqb x x refl) refl
-in_list (x ∷ xs) (suc k) d lt = or_right (nat_eq (get_or xs k d) x) (list_any (nat_eq (get_or xs k d)) xs) (in_list xs k d (omega arith))
-
 pub super_at : (w : World) (c : ℕ) (v : List ℕ) (k : ℕ) → v ≡ supers w c → k < length v → get_or v k 0 < length w
-super_at w c v k e lt = supers_below w c (get_or v k 0) (subst (λ l. list_any (nat_eq (get_or v k 0)) l ≡ true) e (in_list v k 0 lt))
+super_at w c v k e lt = supers_below w c (get_or v k 0) (subst (λ l. list_any (nat_eq (get_or v k 0)) l ≡ true) e (place_listed v k 0 lt))
 
 snoc_any : (d x : ℕ) (xs : List ℕ) → list_any (nat_eq d) (xs ++ x ∷ []) ≡ true → (list_any (nat_eq d) xs ≡ true) ⊎ (d ≡ x)
-snoc_any d x xs h = elim (in_either d xs (x ∷ []) h) [
+snoc_any d x xs h = elim (any_either (nat_eq d) xs (x ∷ []) h) [
   | inl left ↦ inl left
-  | inr right ↦ elim (or_true (nat_eq d x) false right) [ inl same ↦ inr (eqb-true d x same) | inr never ↦ absurd cc ]
+  | inr right ↦ inr (one_listed d x right)
 ]
 
 -- so many edges from the class were added to the graph
@@ -133,9 +109,9 @@ adds_one old g new class xs i lt h k c d =
       λ e. elim ((k c d).0 e) [
         | inl before ↦ elim ((h c d).0 before) [
           | inl first ↦ inl first
-          | inr later ↦ inr (later.0, subst (λ l. list_any (nat_eq d) l ≡ true) (sym more) (in_left d (take i xs) (x ∷ []) later.1))
+          | inr later ↦ inr (later.0, subst (λ l. list_any (nat_eq d) l ≡ true) (sym more) (any_left (nat_eq d) (take i xs) (x ∷ []) later.1))
         ]
-        | inr now ↦ inr (now.0, subst (λ l. list_any (nat_eq d) l ≡ true) (sym more) (in_right d (take i xs) (x ∷ []) (or_left (nat_eq d x) false (eq-eqb d x now.1))))
+        | inr now ↦ inr (now.0, subst (λ l. list_any (nat_eq d) l ≡ true) (sym more) (any_right (nat_eq d) (take i xs) (x ∷ []) (or_left (nat_eq d x) false (eq-eqb d x now.1))))
       ],
       λ e. elim e [
         | inl first ↦ (k c d).1 (inl ((h c d).1 (inl first)))

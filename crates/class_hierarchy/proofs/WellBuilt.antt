@@ -1,40 +1,30 @@
 -- What holds of each well-built world.
 use Rattle.std.proofs.Common.{◌≡◌, inl, inr, ℕ, zero, suc, ◌+◌, ◌<◌, ◌≤◌, Bool, true, false, List, [], ◌∷◌, ◌++◌, length, Option, Some, None, is_none, arith, refl, sym, ap, subst, ◌∙◌, nat_eq, get_or}
 use Rattle.std.specs.Prelude.{find, All, IfSome}
-use Rattle.std.specs.Option.{option_and_then, option_map, option_map_or, option_or, option_to_list}
+use Rattle.std.specs.Option.{option_and_then, option_map_or, option_to_list}
 use Rattle.std.specs.List.{list_any, flat_map, IsDistinct}
 use Rattle.std.specs.Cmp.{nat_eq_equiv}
-use Rattle.std.proofs.lemmas.Bool.{cases_lt, eq-eqb, eqb-true}
-use Rattle.std.proofs.lemmas.List.{length-append}
+use Rattle.std.proofs.lemmas.Bool.{cases_lt, eq-eqb}
+use Rattle.std.proofs.lemmas.List.{length_push}
 use Rattle.std.proofs.lemmas.List.Quantifiers.{position-Some}
 use Rattle.std.proofs.lemmas.Slice.Eq.{bytes_eq-Decides}
 use Rattle.std.proofs.lemmas.Map.Keys.{IsDistinct-push}
 use Rattle.std.proofs.lemmas.Map.Steps.{length-le_from_distinct_below}
+use Rattle.common_laws.proofs.Choices.{map_none, or_none}
+use Rattle.common_laws.proofs.Numbers.{place_listed, one_listed, head_listed, tail_listed}
+use Rattle.common_laws.proofs.Tests.{any_left, any_right, any_either}
 use Rattle.class_hierarchy.specs.declared.fault.WorldFault.TheVariants.{MissingSuper}
 use Rattle.class_hierarchy.specs.World.{World, object_class, is_named, number_of, class_at, superclass, interfaces, line_from, line, above_by, above}
 use Rattle.class_hierarchy.specs.Building.{LeadsTo, IsCyclic, supers, is_missing, missing_name, missing_super, IsWellBuilt}
 use Rattle.class_hierarchy.specs.Building.LeadsTo.{once}
-use Rattle.class_hierarchy.proofs.First.{or_true}
 use Rattle.class_hierarchy.proofs.Rows.{none_past}
 use Rattle.class_hierarchy.proofs.Lines.{line_ends, line_goes}
 use Rattle.class_hierarchy.proofs.Cycles.{number_below, superclass_below, interfaces_below}
-use Rattle.class_hierarchy.proofs.Exploring.{leads_on, in_either, in_left, in_right, none_twice}
+use Rattle.class_hierarchy.proofs.Exploring.{leads_on, none_twice}
 use Rattle.class_hierarchy.proofs.Inside.{line_inside}
 use Rattle.class_hierarchy.proofs.OwnNames.{first_none, own_name}
 
 -- ---- names
-
-map_none : {A B : Type 0} (f : A → B) (o : Option A) → option_map f o ≡ None → o ≡ None
-map_none f None h = refl
-map_none f (Some x) h = absurd cc
-
-none_first : (a b : Option (List ℕ)) → option_or a b ≡ None → a ≡ None
-none_first None b h = refl
-none_first (Some x) b h = absurd cc
-
-told : (b : Bool) (name : List ℕ) (r : Option (List ℕ)) → b ≡ true → (find (λ (x : List ℕ). b) (name ∷ [])) ≡ None → ⊥
-told true name r e h = absurd cc
-told false name r e h = absurd cc
 
 there_at : (w : World) (name : List ℕ) (o : Option ℕ) → number_of w name ≡ o → find (is_missing w) (name ∷ []) ≡ None → (d : ℕ) × (number_of w name ≡ Some d)
 there_at w name (Some d) e h = (d, e)
@@ -51,7 +41,7 @@ unfolding superclass missing_super
 super_there w built c name lt e =
     let none : missing_super w c ≡ None = first_none (missing_super w) (length w) 0 c built.has_supers.there (omega arith) (omega arith) in
     let all : missing_name w (class_at w c) ≡ None = map_none (MissingSuper (class_at w c).name) (missing_name w (class_at w c)) none in
-    let first : find (is_missing w) (option_to_list (class_at w c).super_name) ≡ None = none_first (find (is_missing w) (option_to_list (class_at w c).super_name)) (find (is_missing w) (class_at w c).interfaces) all in
+    let first : find (is_missing w) (option_to_list (class_at w c).super_name) ≡ None = (or_none (find (is_missing w) (option_to_list (class_at w c).super_name)) (find (is_missing w) (class_at w c).interfaces) all).0 in
     let there = there_at w name (number_of w name) refl (subst (λ o. find (is_missing w) (option_to_list o) ≡ None) e first) in
     (there.0, number_below w name there.0 there.1, ap (λ o. option_and_then (number_of w) o) e ∙ there.1, named_so w name there.0 there.1)
 
@@ -70,42 +60,36 @@ not_on : (w : World) (path : List ℕ) (c : ℕ) (b : Bool) → ((d : ℕ) → �
 not_on w path c true acyclic p e = absurd (acyclic c (p.lead c e))
 not_on w path c false acyclic p e = refl
 
-on_end : (d c : ℕ) → list_any (nat_eq d) (c ∷ []) ≡ true → d ≡ c
-on_end d c h = elim (or_true (nat_eq d c) false h) [ inl e ↦ eqb-true d c e | inr e ↦ absurd cc ]
-
 path_next : (w : World) (path : List ℕ) (c e : ℕ) → ((d : ℕ) → ¬ IsCyclic w d) → c < length w → Path w path c → list_any (nat_eq e) (supers w c) ≡ true → Path w (path ++ c ∷ []) e
 path_next w path c e acyclic lt p step = record {
   distinct = IsDistinct-push nat_eq_equiv path c p.distinct (not_on w path c (list_any (nat_eq c) path) acyclic p refl);
-  below = λ d h. elim (in_either d path (c ∷ []) h) [
+  below = λ d h. elim (any_either (nat_eq d) path (c ∷ []) h) [
     | inl old ↦ p.below d old
-    | inr new ↦ subst (λ k. k < length w) (sym (on_end d c new)) lt
+    | inr new ↦ subst (λ k. k < length w) (sym (one_listed d c new)) lt
   ];
-  lead = λ d h. elim (in_either d path (c ∷ []) h) [
+  lead = λ d h. elim (any_either (nat_eq d) path (c ∷ []) h) [
     | inl old ↦ leads_on (supers w) d c e (p.lead d old) step
-    | inr new ↦ subst (λ k. LeadsTo (supers w) k e) (sym (on_end d c new)) (once step)
+    | inr new ↦ subst (λ k. LeadsTo (supers w) k e) (sym (one_listed d c new)) (once step)
   ];
 }
-
-longer : (path : List ℕ) (c : ℕ) → length (path ++ c ∷ []) ≡ length path + 1
-longer path c = length-append path (c ∷ [])
 
 -- a path doesn't pass through all classes before it comes to one of them
 short : (w : World) (path : List ℕ) (c : ℕ) → ((d : ℕ) → ¬ IsCyclic w d) → c < length w → Path w path c → length path < length w
 short w path c acyclic lt p =
     let distinct : IsDistinct nat_eq (path ++ c ∷ []) = IsDistinct-push nat_eq_equiv path c p.distinct (not_on w path c (list_any (nat_eq c) path) acyclic p refl) in
-    let few : length (path ++ c ∷ []) ≤ length w = length-le_from_distinct_below (path ++ c ∷ []) (length w) distinct (λ d h. elim (in_either d path (c ∷ []) h) [
+    let few : length (path ++ c ∷ []) ≤ length w = length-le_from_distinct_below (path ++ c ∷ []) (length w) distinct (λ d h. elim (any_either (nat_eq d) path (c ∷ []) h) [
       | inl old ↦ p.below d old
-      | inr new ↦ subst (λ k. k < length w) (sym (on_end d c new)) lt
+      | inr new ↦ subst (λ k. k < length w) (sym (one_listed d c new)) lt
     ]) in
-    omega (arith, few, longer path c)
+    omega (arith, few, length_push path c)
 
 super_step : (w : World) (c s : ℕ) → superclass w c ≡ Some s → list_any (nat_eq s) (supers w c) ≡ true
 unfolding supers
-super_step w c s e = in_left s (option_to_list (superclass w c)) (interfaces w c) (rw (e, eq-eqb s s refl) refl)
+super_step w c s e = any_left (nat_eq s) (option_to_list (superclass w c)) (interfaces w c) (rw (e, eq-eqb s s refl) refl)
 
 pub interface_step : (w : World) (c i : ℕ) → list_any (nat_eq i) (interfaces w c) ≡ true → list_any (nat_eq i) (supers w c) ≡ true
 unfolding supers
-interface_step w c i h = in_right i (option_to_list (superclass w c)) (interfaces w c) h
+interface_step w c i h = any_right (nat_eq i) (option_to_list (superclass w c)) (interfaces w c) h
 
 -- ---- superclasses
 
@@ -114,7 +98,7 @@ LineStays w k = (path : List ℕ) (c : ℕ) → c < length w → Path w path c �
 
 line_above : (w : World) → ((d : ℕ) → ¬ IsCyclic w d) → (k : ℕ) → LineStays w k → (path : List ℕ) (c : ℕ) (o : Option ℕ) → superclass w c ≡ o → c < length w → Path w path c → length w ≤ length path + suc k → line_from w (suc k) o ≡ line_from w k o
 line_above w acyclic k stays path c None e lt p le = line_ends w (suc k) ∙ sym (line_ends w k)
-line_above w acyclic k stays path c (Some s) e lt p le = stays (path ++ c ∷ []) s (superclass_below w c s e) (path_next w path c s acyclic lt p (super_step w c s e)) (omega (arith, le, longer path c))
+line_above w acyclic k stays path c (Some s) e lt p le = stays (path ++ c ∷ []) s (superclass_below w c s e) (path_next w path c s acyclic lt p (super_step w c s e)) (omega (arith, le, length_push path c))
 
 line_stays : (w : World) → ((d : ℕ) → ¬ IsCyclic w d) → (k : ℕ) → LineStays w k
 line_stays w acyclic zero path c lt p le = absurd (omega (arith, le, short w path c acyclic lt p))
@@ -141,8 +125,8 @@ line_whole w built c lt = line_by w built.no_cycle (length w) c refl lt ∙ ap (
 each_of : (f g : ℕ → List ℕ) (xs : List ℕ) → ((i : ℕ) → list_any (nat_eq i) xs ≡ true → f i ≡ g i) → flat_map f xs ≡ flat_map g xs
 each_of f g [] h = refl
 each_of f g (x ∷ xs) h =
-    let here : f x ≡ g x = h x (in_left x (x ∷ []) xs (rw (eq-eqb x x refl) refl)) in
-    let rest : flat_map f xs ≡ flat_map g xs = each_of f g xs (λ i there. h i (in_right i (x ∷ []) xs there)) in
+    let here : f x ≡ g x = h x (head_listed x xs) in
+    let rest : flat_map f xs ≡ flat_map g xs = each_of f g xs (λ i there. h i (tail_listed i x xs there)) in
     ap (λ l. l ++ flat_map f xs) here ∙ ap (λ l. g x ++ l) rest
 
 pub above_goes : (w : World) (k c : ℕ) → above_by w (suc k) c ≡ flat_map (λ i. i ∷ above_by w k i) (interfaces w c)
@@ -153,7 +137,7 @@ above_stays : (w : World) → ((d : ℕ) → ¬ IsCyclic w d) → (k : ℕ) (pat
 above_stays w acyclic zero path c lt p le = absurd (omega (arith, le, short w path c acyclic lt p))
 above_stays w acyclic (suc k) path c lt p le =
     above_goes w (suc k) c
-    ∙ each_of (λ i. i ∷ above_by w (suc k) i) (λ i. i ∷ above_by w k i) (interfaces w c) (λ i h. ap (λ l. i ∷ l) (above_stays w acyclic k (path ++ c ∷ []) i (interfaces_below w c i h) (path_next w path c i acyclic lt p (interface_step w c i h)) (omega (arith, le, longer path c))))
+    ∙ each_of (λ i. i ∷ above_by w (suc k) i) (λ i. i ∷ above_by w k i) (interfaces w c) (λ i h. ap (λ l. i ∷ l) (above_stays w acyclic k (path ++ c ∷ []) i (interfaces_below w c i h) (path_next w path c i acyclic lt p (interface_step w c i h)) (omega (arith, le, length_push path c))))
     ∙ sym (above_goes w k c)
 
 above_past : (w : World) (k c : ℕ) → interfaces w c ≡ [] → above_by w k c ≡ []
@@ -174,17 +158,12 @@ own_names w built c lt = own_name w built.has_supers.once c lt
 
 -- ---- numbers
 
-in_line : (xs : List ℕ) (k d : ℕ) → k < length xs → list_any (nat_eq (get_or xs k d)) xs ≡ true
-in_line [] k d lt = absurd (omega arith)
-in_line (x ∷ xs) zero d lt = in_left x (x ∷ []) xs (rw (eq-eqb x x refl) refl)
-in_line (x ∷ xs) (suc k) d lt = in_right (get_or xs k d) (x ∷ []) xs (in_line xs k d (omega arith))
-
 pub all_below : (w : World) (c : ℕ) (v : List ℕ) → c < length w → v ≡ line w c → All (λ d. d < length w) v
-all_below w c v lt e = λ k d within. line_inside w c lt (get_or v k d) (subst (λ l. list_any (nat_eq (get_or v k d)) l ≡ true) e (in_line v k d within))
+all_below w c v lt e = λ k d within. line_inside w c lt (get_or v k d) (subst (λ l. list_any (nat_eq (get_or v k d)) l ≡ true) e (place_listed v k d within))
 
 pub super_bound : (w : World) (c : ℕ) (o : Option ℕ) → o ≡ superclass w c → IfSome o (λ i. i < length w)
 super_bound w c None e = tt
 super_bound w c (Some i) e = superclass_below w c i (sym e)
 
 pub interfaces_bound : (w : World) (c : ℕ) (xs : List ℕ) → xs ≡ interfaces w c → All (λ i. i < length w) xs
-interfaces_bound w c xs e = λ k d within. interfaces_below w c (get_or xs k d) (subst (λ l. list_any (nat_eq (get_or xs k d)) l ≡ true) e (in_line xs k d within))
+interfaces_bound w c xs e = λ k d within. interfaces_below w c (get_or xs k d) (subst (λ l. list_any (nat_eq (get_or xs k d)) l ≡ true) e (place_listed xs k d within))

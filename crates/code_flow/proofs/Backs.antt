@@ -4,6 +4,7 @@ use Rattle.std.specs.Prelude.{slice_get, slice_index, Contains, ◌==◌, is_som
 use Rattle.std.specs.List.{position}
 use Rattle.std.proofs.lemmas.Bool.{cases_lt, eqb-true, eq-eqb}
 use Rattle.std.proofs.lemmas.Option.{get_or_from_slice_get, slice_get_within}
+use Rattle.common_laws.proofs.Positions.{position_hit, position_miss, position_behind, position_any}
 use Rattle.graph_core.specs.Graphs.{HasEdge}
 use Rattle.graph_core.specs.Paths.{Leads as Paths, Reaches}
 use Rattle.graph_core.specs.Components.{AreTogether}
@@ -11,13 +12,11 @@ use Rattle.graph_core.specs.Numbers.{AreComponents}
 use Rattle.graph_core.proofs.Reach.{Reaches-itself, Reaches-before}
 use Rattle.world.specs.declared.member.MemberId.{MemberId}
 use Rattle.class_hierarchy.specs.World.{World}
-use Rattle.class_hierarchy.proofs.Places.{position_hit, position_miss, position_behind}
 use Rattle.code_flow.specs.Listing.{is_method, is_among, callees, most_methods, reached, Leads}
 use Rattle.code_flow.specs.Listing.Leads.{calls, through}
 use Rattle.code_flow.specs.Returning.{IsGraphTo, TellsBack}
 use Rattle.code_flow.proofs.Members.{is_method_same, among_listed, listed_among}
 use Rattle.code_flow.proofs.ListingLaws.{Once}
-use Rattle.code_flow.proofs.Numberings.{position_any}
 use Rattle.code_flow.proofs.ReachedLaws.{reached_looked, reached_closed, listed_from_callee, leads_among, among_leads}
 
 -- ---- places

@@ -6,6 +6,7 @@ use Rattle.std.specs.List.{list_any}
 use Rattle.std.proofs.lemmas.Bool.{lt-ltb}
 use Rattle.std.proofs.lemmas.List.{take_all, length-map}
 use Rattle.std.proofs.lemmas.Option.{slice_get_within}
+use Rattle.common_laws.proofs.Members.{contains_head, contains_tail, in_flat}
 use Rattle.graph_core.specs.Numbers.{AreComponents}
 use Rattle.op_table.specs.declared.construct.Construct.{Construct}
 use Rattle.op_table.specs.declared.construct.Construct.TheVariants.{Later}
@@ -23,8 +24,6 @@ use Rattle.code_flow.specs.Scanning.{scan_of}
 use Rattle.code_flow.specs.Scanned.{site_targets, site_fault, unsupported_at, unsupported_opcode, planned_by, IsListed}
 use Rattle.code_flow.specs.Returning.{TellsBack, IsCheck, IsGraphTo}
 use Rattle.code_flow.specs.Checking.{same_number, same_as, is_back, call_fault, verdict_fault, checked_site, checked_scan, first_from}
-use Rattle.code_flow.proofs.Members.{contains_head, contains_tail}
-use Rattle.code_flow.proofs.Mapped.{in_flat}
 use Rattle.code_flow.proofs.Firsts.{of_same, from_of}
 use Rattle.code_flow.proofs.ScanLaws.{callees_scanned, fault_scanned, planned_scanned, scan_method}
 use Rattle.code_flow.proofs.ReachedLaws.{past_end, reached_looked}

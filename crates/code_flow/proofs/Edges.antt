@@ -4,9 +4,11 @@ use Rattle.std.specs.Prelude.{flat_map, slice_get, replicate, OnOk}
 use Rattle.std.specs.List.{position}
 use Rattle.std.proofs.lemmas.Grind.{common_steps, flat_map-append}
 use Rattle.std.proofs.lemmas.Bool.{cases_lt}
-use Rattle.std.proofs.lemmas.List.{take_all, get_or-map, length-map}
+use Rattle.std.proofs.lemmas.List.{take_all, get_or-map, length-map, length-replicate}
 use Rattle.std.proofs.lemmas.Option.{slice_get-get_or}
 use Rattle.std.proofs.lemmas.List.Elements.{Contains-append_left, Contains-append_right, Contains-append_cases}
+use Rattle.common_laws.proofs.Parts.{take_next}
+use Rattle.common_laws.proofs.Members.{contains_head, contains_cases, contains_none}
 use Rattle.graph_core.specs.Graphs.{HasEdge}
 use Rattle.world.specs.declared.member.MemberId.{MemberId}
 use Rattle.class_hierarchy.specs.World.{World}
@@ -16,7 +18,6 @@ use Rattle.code_flow.specs.Listing.{is_method, callees}
 use Rattle.code_flow.specs.Scanning.{scan_of}
 use Rattle.code_flow.specs.Scanned.{site_targets}
 use Rattle.code_flow.specs.Returning.{IsPlaceOf, Adds, IsGraphTo}
-use Rattle.code_flow.proofs.Members.{contains_cases, contains_none, contains_head}
 use Rattle.code_flow.proofs.ScanLaws.{callees_scanned}
 
 -- ---- edges that are added
@@ -73,9 +74,6 @@ adds_through ms i xs ys a b c h k = record {
   );
 }
 
-take_next : {A : Type 0} (xs : List A) (k : ℕ) (x d : A) → k < length xs → x ≡ get_or xs k d → take (k + 1) xs ≡ take k xs ++ x ∷ []
-take_next xs k x d lt e = let t : take (k + 1) xs ≡ take k xs ++ get_or xs k d ∷ [] = grind (arith, common_steps) in t ∙ ap (λ y. take k xs ++ y ∷ []) (sym e)
-
 -- call by call
 pub adds_next : (ms : List MemberId) (i : ℕ) (ts : List MemberId) (k : ℕ) (x d : MemberId) (a b c : List (List ℕ)) → k < length ts → x ≡ get_or ts k d → Adds ms i (take k ts) a b → Adds ms i (x ∷ []) b c → Adds ms i (take (k + 1) ts) a c
 adds_next ms i ts k x d a b c lt e h one = subst (λ l. Adds ms i l a c) (sym (take_next ts k x d lt e)) (adds_through ms i (take k ts) (x ∷ []) a b c h one)
@@ -103,12 +101,9 @@ none_from zero x y h = contains_none y h
 none_from (suc n) zero y h = contains_none y h
 none_from (suc n) (suc x) y h = none_from n x y h
 
-length_rows : (n : ℕ) → length (replicate {A = List ℕ} n []) ≡ n
-length_rows n = grind (arith, common_steps)
-
 pub graph_start : (w : World) (ms : List MemberId) (n : ℕ) (g : List (List ℕ)) → n ≡ length ms → g ≡ replicate n [] → IsGraphTo w ms 0 g
 graph_start w ms n g e f = record {
-  count = ap (λ l. length l) f ∙ length_rows n ∙ e;
+  count = ap (λ l. length l) f ∙ length-replicate n [] ∙ e;
   sound = λ x y h. absurd (none_from n x y (subst (λ l. HasEdge l x y) f h));
   whole = λ x y m lt at p. absurd (omega (arith, lt));
 }

@@ -4,6 +4,9 @@ use Rattle.std.specs.Prelude.{Contains, slice_get, option_and_then}
 use Rattle.std.proofs.lemmas.List.{get_or_default}
 use Rattle.std.proofs.lemmas.Option.{get_or_from_slice_get, slice_get_within}
 use Rattle.std.proofs.lemmas.List.Elements.{Contains-append_left, Contains-append_right}
+use Rattle.common_laws.proofs.Parts.{in_take}
+use Rattle.common_laws.proofs.Tests.{any_in}
+use Rattle.common_laws.proofs.Members.{contains_none, in_map, from_map, in_flat, from_flat}
 use Rattle.class_reader.specs.declared.class.Method.{Method}
 use Rattle.class_reader.specs.declared.class.Code.{Code}
 use Rattle.op_table.specs.declared.construct.Construct.{Construct}
@@ -18,8 +21,8 @@ use Rattle.code_flow.specs.Placing.{placed, broken}
 use Rattle.code_flow.specs.Judging.{Judged, judged_place, places_in, places_at, places_of, against_method, against_break}
 use Rattle.code_flow.specs.Listing.{is_among, targets_in, targets_at, callees, reached}
 use Rattle.code_flow.specs.Flow.{lead_back, fault_if, fault_of, first_in, first_fault, planned_place, planned_in, planned}
-use Rattle.code_flow.proofs.Members.{contains_none, listed_among, in_take}
-use Rattle.code_flow.proofs.Mapped.{in_map, from_map, in_flat, from_flat, none_of, true_of}
+use Rattle.code_flow.proofs.Members.{listed_among}
+use Rattle.code_flow.proofs.Mapped.{none_of}
 use Rattle.code_flow.proofs.ReachedLaws.{IsLookedUpTo, past_end}
 
 -- ---- a place
@@ -42,7 +45,7 @@ not_over w over m pc (Ok ts) none h = no_fault_if (is_among ts over) TooManyMeth
 pub not_back : (w : World) (m t : MemberId) (pc : ℕ) (verdict : Result (List MemberId) Construct) → fault_of w None m pc verdict ≡ None → Contains (targets_in verdict) t → is_among (reached w t) m ≡ true → ⊥
 not_back w m t pc (Err construct) none h back = contains_none t h
 not_back w m t pc (Ok ts) none h back =
-    no_fault_if (lead_back w m ts) (Unsupported m pc Later) none (true_of (λ u. is_among (reached w u) m) ts t h back)
+    no_fault_if (lead_back w m ts) (Unsupported m pc Later) none (any_in (λ u. is_among (reached w u) m) ts t h back)
 
 -- ---- a method
 

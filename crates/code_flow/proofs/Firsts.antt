@@ -3,23 +3,17 @@ use Rattle.std.proofs.Common.{◌≡◌, ℕ, suc, ◌+◌, ◌<◌, ◌≤◌, 
 use Rattle.std.specs.Prelude.{Contains, slice_get}
 use Rattle.std.specs.Option.{option_or}
 use Rattle.std.proofs.lemmas.Grind.{common_steps}
+use Rattle.std.proofs.lemmas.List.{drop_all}
+use Rattle.common_laws.proofs.Parts.{drop_next}
+use Rattle.common_laws.proofs.Members.{contains_head, contains_tail}
 use Rattle.code_flow.specs.Flow.{first_of}
 use Rattle.code_flow.specs.Checking.{first_from}
-use Rattle.code_flow.proofs.Members.{contains_head, contains_tail}
-
-next_drop : {A : Type 0} (xs : List A) (i : ℕ) (x d : A) → i < length xs → x ≡ get_or xs i d → drop i xs ≡ x ∷ drop (i + 1) xs
-next_drop xs i x d lt e =
-    let past : drop (suc i) xs ≡ drop (i + 1) xs = let k : suc i ≡ i + 1 = omega arith in ap (λ j. drop j xs) k in
-    drop-cons xs i d lt ∙ ap (λ y. y ∷ drop (suc i) xs) (sym e) ∙ ap (λ l. x ∷ l) past
-
-none_left : {A : Type 0} (xs : List A) (i : ℕ) → length xs ≤ i → drop i xs ≡ []
-none_left xs i le = grind (arith, common_steps)
 
 -- ---- without places
 
 of_next : {A B : Type 0} (f : A → Option B) (xs : List A) (i : ℕ) (x d : A) (o : Option B) → i < length xs → x ≡ get_or xs i d → f x ≡ o → first_of f (drop i xs) ≡ option_or o (first_of f (drop (i + 1) xs))
 unfolding first_of
-of_next f xs i x d o lt e h = ap (λ l. first_of f l) (next_drop xs i x d lt e) ∙ ap (λ q. option_or q (first_of f (drop (i + 1) xs))) h
+of_next f xs i x d o lt e h = ap (λ l. first_of f l) (drop_next xs i x d lt e) ∙ ap (λ q. option_or q (first_of f (drop (i + 1) xs))) h
 
 pub of_later : {A B : Type 0} (f : A → Option B) (xs : List A) (i : ℕ) (x d : A) (r : Option B) → i < length xs → x ≡ get_or xs i d → f x ≡ None → r ≡ first_of f (drop i xs) → r ≡ first_of f (drop (i + 1) xs)
 of_later f xs i x d r lt e h is = is ∙ of_next f xs i x d None lt e h
@@ -29,7 +23,7 @@ of_here f xs i x d y r lt e h is = sym (is ∙ of_next f xs i x d (Some y) lt e 
 
 pub of_end : {A B : Type 0} (f : A → Option B) (xs : List A) (i : ℕ) (r : Option B) → length xs ≤ i → r ≡ first_of f (drop i xs) → None ≡ r
 unfolding first_of
-of_end f xs i r le is = sym (is ∙ ap (λ l. first_of f l) (none_left xs i le))
+of_end f xs i r le is = sym (is ∙ ap (λ l. first_of f l) (drop_all i xs le))
 
 pub of_same : {A B : Type 0} (f g : A → Option B) (xs : List A) → ((x : A) → Contains xs x → f x ≡ g x) → first_of f xs ≡ first_of g xs
 unfolding first_of
@@ -42,7 +36,7 @@ from_next : {A B : Type 0} (f : ℕ → A → Option B) (xs : List A) (i : ℕ) 
 unfolding first_from
 from_next f xs i x d o lt e h =
     let k : suc i ≡ i + 1 = omega arith in
-    ap (λ l. first_from f i l) (next_drop xs i x d lt e) ∙ ap (λ q. option_or q (first_from f (suc i) (drop (i + 1) xs))) h ∙ ap (λ j. option_or o (first_from f j (drop (i + 1) xs))) k
+    ap (λ l. first_from f i l) (drop_next xs i x d lt e) ∙ ap (λ q. option_or q (first_from f (suc i) (drop (i + 1) xs))) h ∙ ap (λ j. option_or o (first_from f j (drop (i + 1) xs))) k
 
 pub from_later : {A B : Type 0} (f : ℕ → A → Option B) (xs : List A) (i : ℕ) (x d : A) (r : Option B) → i < length xs → x ≡ get_or xs i d → f i x ≡ None → r ≡ first_from f i (drop i xs) → r ≡ first_from f (i + 1) (drop (i + 1) xs)
 from_later f xs i x d r lt e h is = is ∙ from_next f xs i x d None lt e h
@@ -52,7 +46,7 @@ from_here f xs i x d y r lt e h is = sym (is ∙ from_next f xs i x d (Some y) l
 
 pub from_end : {A B : Type 0} (f : ℕ → A → Option B) (xs : List A) (i : ℕ) (r : Option B) → length xs ≤ i → r ≡ first_from f i (drop i xs) → None ≡ r
 unfolding first_from
-from_end f xs i r le is = sym (is ∙ ap (λ l. first_from f i l) (none_left xs i le))
+from_end f xs i r le is = sym (is ∙ ap (λ l. first_from f i l) (drop_all i xs le))
 
 pub from_of : {A B C : Type 0} (f : ℕ → A → Option B) (g : C → Option B) (s : C → A) (xs : List C) (k : ℕ) → ((i : ℕ) (x : C) → slice_get xs i ≡ Some x → f (k + i) (s x) ≡ g x) → first_from f k (map s xs) ≡ first_of g xs
 unfolding first_from first_of

@@ -2,6 +2,7 @@
 use Rattle.std.proofs.Common.{◌≡◌, ◌⊎◌, inl, inr, ℕ, zero, suc, ◌<◌, Bool, true, false, List, [], ◌∷◌, length, Option, Some, None, refl, sym, subst, arith}
 use Rattle.std.specs.Prelude.{Result, Ok, Err, slice_get, map, take}
 use Rattle.std.specs.Option.{option_or, option_and_then}
+use Rattle.common_laws.proofs.Choices.{or_some}
 use Rattle.class_pool.specs.declared.target.Target.{Target}
 use Rattle.class_reader.specs.declared.class.ClassRecord.{ClassRecord}
 use Rattle.class_reader.specs.declared.class.Method.{Method}
@@ -19,15 +20,11 @@ use Rattle.code_flow.specs.Listing.{most_methods, is_among, reached}
 use Rattle.code_flow.specs.Flow.{method_named, lead_back, fault_if, fault_of, first_of, first_in, first_fault, planned, unless, flow_at, flow_of}
 use Rattle.code_flow.specs.Faults.{IsFounded}
 
-some_or : {A : Type 0} (x y : Option A) (a : A) → option_or x y ≡ Some a → (x ≡ Some a) ⊎ (y ≡ Some a)
-some_or None y a e = inr e
-some_or (Some b) y a e = inl e
-
 -- the first answer for a list is one for a thing of it
 first_from : {A B : Type 0} (f : A → Option B) (P : B → Type 0) → ((a : A) (b : B) → f a ≡ Some b → P b) → (xs : List A) (b : B) → first_of f xs ≡ Some b → P b
 unfolding first_of
 first_from f P each [] b e = absurd cc
-first_from f P each (x ∷ xs) b e = elim (some_or (f x) (first_of f xs) b e) [
+first_from f P each (x ∷ xs) b e = elim (or_some (f x) (first_of f xs) b e) [
   | inl here ↦ each x b here
   | inr later ↦ first_from f P each xs b later
 ]

@@ -5,10 +5,11 @@ use Rattle.std.proofs.lemmas.List.{take_at, take-append-le, get_or_append_left, 
 use Rattle.std.proofs.lemmas.List.Elements.{Contains-append_left, Contains-push, Contains-push_cases, Contains-get_or}
 use Rattle.std.proofs.lemmas.List.Quantifiers.{all_pairs_push}
 use Rattle.std.proofs.lemmas.Option.{get_or_from_slice_get, slice_get-get_or, slice_get_within}
+use Rattle.common_laws.proofs.Members.{contains_head, contains_tail, contains_cases, contains_none}
 use Rattle.world.specs.declared.member.MemberId.{MemberId}
 use Rattle.class_hierarchy.specs.World.{World}
 use Rattle.code_flow.specs.Listing.{is_among, callees, with_new, listed_then, listed}
-use Rattle.code_flow.proofs.Members.{contains_cases, contains_head, contains_tail, contains_none, among_listed, listed_among}
+use Rattle.code_flow.proofs.Members.{among_listed, listed_among}
 
 -- ---- a list that grows at its end
 

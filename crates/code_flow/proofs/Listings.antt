@@ -4,7 +4,9 @@ use Rattle.std.specs.Prelude.{flat_map, slice_get, Contains, if◌then◌else◌
 use Rattle.std.proofs.lemmas.Grind.{common_steps}
 use Rattle.std.proofs.lemmas.List.{map-append, take_all}
 use Rattle.std.proofs.lemmas.Option.{get_or_from_slice_get, slice_get_within}
-use Rattle.std.proofs.lemmas.List.Elements.{Contains-get_or}
+use Rattle.std.proofs.lemmas.List.Elements.{Contains-get_or, All-contains}
+use Rattle.common_laws.proofs.Parts.{take_next}
+use Rattle.common_laws.proofs.Members.{from_flat}
 use Rattle.op_table.specs.declared.construct.Construct.{Construct}
 use Rattle.world.specs.declared.member.MemberId.{MemberId}
 use Rattle.class_hierarchy.specs.World.{World}
@@ -16,7 +18,6 @@ use Rattle.code_flow.specs.Scanning.{scan_of}
 use Rattle.code_flow.specs.ThereScanning.{AreMethods, HasTargets}
 use Rattle.code_flow.specs.Scanned.{site_targets, IsListedTo, IsListed}
 use Rattle.code_flow.proofs.ListingLaws.{with_new_grows, with_new_from, grown_longer, grown_takes_to}
-use Rattle.code_flow.proofs.Mapped.{from_flat}
 use Rattle.code_flow.proofs.ReachedLaws.{past_end}
 use Rattle.code_flow.proofs.ScanLaws.{callees_scanned}
 
@@ -48,23 +49,20 @@ targets_end start ms sites i le h =
 
 -- ---- they are methods
 
-all_by : {A : Type 0} (P : A → Type 0) (xs : List A) (u : A) → All P xs → Contains xs u → P u
-all_by P xs u h c = subst P c.2 (h c.0 u c.1)
-
 by_verdict : (w : World) (verdict : Result (List MemberId) Construct) (u : MemberId) → AreMethods w verdict → Contains (targets_in verdict) u → HasMethod w u
-by_verdict w (Ok ts) u h c = all_by (HasMethod w) ts u h c
+by_verdict w (Ok ts) u h c = All-contains (HasMethod w) ts u h c
 by_verdict w (Err e) u h c = absurd (omega (arith, c.1))
 
 in_sites : (w : World) (sites : List Site) (u : MemberId) → All (HasTargets w) sites → Contains (flat_map site_targets sites) u → HasMethod w u
 in_sites w sites u h c =
     let from = from_flat site_targets sites u c in
-    by_verdict w from.0.verdict u (all_by (HasTargets w) sites from.0 h from.1) from.2
+    by_verdict w from.0.verdict u (All-contains (HasTargets w) sites from.0 h from.1) from.2
 
 pub still_there : (w : World) (old now : List MemberId) (sites : List Site) → All (HasTargets w) sites → now ≡ with_new old (flat_map site_targets sites) → All (HasMethod w) old → All (HasMethod w) now
 still_there w old now sites targets e h = λ k d lt.
     let c : Contains (with_new old (flat_map site_targets sites)) (get_or now k d) = subst (λ l. Contains l (get_or now k d)) e (Contains-get_or now k d lt) in
     elim (with_new_from old (flat_map site_targets sites) (get_or now k d) c) [
-      | inl before ↦ all_by (HasMethod w) old (get_or now k d) h before
+      | inl before ↦ All-contains (HasMethod w) old (get_or now k d) h before
       | inr new ↦ in_sites w sites (get_or now k d) targets new
     ]
 
@@ -83,9 +81,6 @@ listed_one : (w : World) (n : ℕ) (ms : List MemberId) (k : ℕ) (x : MemberId)
 unfolding listed
 listed_one w n ms k x e = ap (λ o. listed_then (λ now. listed w n now (suc k)) w ms o) e
 
-take_next : (ms : List MemberId) (k : ℕ) (x : MemberId) → k < length ms → get_or ms k x ≡ x → take (k + 1) ms ≡ take k ms ++ x ∷ []
-take_next ms k x lt e = let t : take (k + 1) ms ≡ take k ms ++ get_or ms k x ∷ [] = grind (arith, common_steps) in t ∙ ap (λ y. take k ms ++ y ∷ []) e
-
 pub listed_next : (w : World) (m : MemberId) (k : ℕ) (ms now : List MemberId) (scans more : List Scan) (x : MemberId) → k < most_methods → slice_get ms k ≡ Some x
     → now ≡ with_new ms (flat_map site_targets (scan_of w x).body.sites) → more ≡ scans ++ scan_of w x ∷ [] → (All (HasMethod w) ms → All (HasMethod w) now)
     → IsListedTo w m k ms scans → IsListedTo w m (k + 1) now more
@@ -97,7 +92,7 @@ listed_next w m k ms now scans more x few e n s there h =
     let fuel : most_methods - k ≡ suc (most_methods - (k + 1)) = omega arith in
     let at : suc k ≡ k + 1 = omega arith in
     let front : take (k + 1) now ≡ take (k + 1) ms = ap (λ l. take (k + 1) l) by ∙ grown_takes_to ms (with_new ms (callees w x)) (k + 1) grows (omega (arith, lt)) in
-    let next : take (k + 1) ms ≡ take k ms ++ x ∷ [] = take_next ms k x lt (get_or_from_slice_get ms k x x e) in
+    let next : take (k + 1) ms ≡ take k ms ++ x ∷ [] = take_next ms k x x lt (sym (get_or_from_slice_get ms k x x e)) in
     record {
       rest = h.rest ∙ ap (λ n. listed w n ms k) fuel ∙ listed_one w (most_methods - (k + 1)) ms k x e ∙ ap (λ l. listed w (most_methods - (k + 1)) l (suc k)) (sym by) ∙ ap (λ j. listed w (most_methods - (k + 1)) now j) at;
       scanned = s ∙ ap (λ l. l ++ scan_of w x ∷ []) h.scanned ∙ sym (map-append (scan_of w) (take k ms) (x ∷ [])) ∙ ap (λ l. map (scan_of w) l) (sym (front ∙ next));

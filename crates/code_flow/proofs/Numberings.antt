@@ -7,25 +7,13 @@ use Rattle.std.specs.Cmp.{tied_then, unsigned_tied}
 use Rattle.std.specs.BTreeMap.{BTreeMap, is_at}
 use Rattle.std.specs.Map.{lookup}
 use Rattle.std.proofs.lemmas.Grind.{common_steps}
+use Rattle.common_laws.proofs.Positions.{position_any, position_last, position_push}
 use Rattle.world.specs.declared.member.MemberId.{MemberId}
-use Rattle.class_hierarchy.proofs.Places.{position_hit, position_miss, position_behind}
 use Rattle.code_flow.specs.Listing.{is_method, is_among, with_new}
 use Rattle.code_flow.specs.Numbering.{key_cmp, place_in, HasPlaces}
 use Rattle.code_flow.proofs.Members.{is_method_same, same_is_method}
 
 -- ---- places
-
-later_or : {A : Type 0} (p : A → Bool) (x : A) (xs : List A) (o : Option ℕ) → p x ≡ false → position p xs ≡ o → list_any p xs ≡ is_some (position p xs) → list_any p (x ∷ xs) ≡ is_some (position p (x ∷ xs))
-later_or p x xs None e f ih = rw (position_miss p x xs e f) (ap (λ b. b || list_any p xs) e ∙ ih ∙ ap is_some f)
-later_or p x xs (Some i) e f ih = rw (position_behind p x xs i e f) (ap (λ b. b || list_any p xs) e ∙ ih ∙ ap is_some f)
-
-hit_or : {A : Type 0} (p : A → Bool) (x : A) (xs : List A) (b : Bool) → p x ≡ b → list_any p xs ≡ is_some (position p xs) → list_any p (x ∷ xs) ≡ is_some (position p (x ∷ xs))
-hit_or p x xs true e ih = rw (position_hit p x xs e) (ap (λ b. b || list_any p xs) e)
-hit_or p x xs false e ih = later_or p x xs (position p xs) e refl ih
-
-pub position_any : {A : Type 0} (p : A → Bool) (xs : List A) → list_any p xs ≡ is_some (position p xs)
-position_any p [] = refl
-position_any p (x ∷ xs) = hit_or p x xs (p x) refl (position_any p xs)
 
 pub is_old : (ms : List MemberId) (m : MemberId) (i : ℕ) → Some i ≡ position (is_method m) ms → is_among ms m ≡ true
 is_old ms m i e = position_any (is_method m) ms ∙ ap is_some (sym e)
@@ -34,31 +22,6 @@ pub is_new : (ms : List MemberId) (m : MemberId) → None ≡ position (is_metho
 is_new ms m e = position_any (is_method m) ms ∙ ap is_some (sym e)
 
 -- ---- one more method
-
-none_later : {A : Type 0} (p : A → Bool) (x : A) (xs : List A) (o : Option ℕ) → p x ≡ false → position p xs ≡ o → position p (x ∷ xs) ≡ None → position p xs ≡ None
-none_later p x xs None e f none = f
-none_later p x xs (Some i) e f none = let later : position p (x ∷ xs) ≡ Some (i + 1) = position_behind p x xs i e f in absurd cc
-
-last_hit_at : {A : Type 0} (p : A → Bool) (x : A) (xs : List A) (y : A) (b : Bool) → p x ≡ b → position p (x ∷ xs) ≡ None → (position p xs ≡ None → position p (xs ++ y ∷ []) ≡ Some (length xs)) → position p (x ∷ xs ++ y ∷ []) ≡ Some (length (x ∷ xs))
-last_hit_at p x xs y true e none ih = let hit : position p (x ∷ xs) ≡ Some 0 = position_hit p x xs e in absurd cc
-last_hit_at p x xs y false e none ih =
-    let later : position p (x ∷ xs ++ y ∷ []) ≡ Some (length xs + 1) = position_behind p x (xs ++ y ∷ []) (length xs) e (ih (none_later p x xs (position p xs) e refl none)) in
-    let n : length xs + 1 ≡ length (x ∷ xs) = omega arith in
-    later ∙ ap Some n
-
--- a list and one more
-last_hit : {A : Type 0} (p : A → Bool) (xs : List A) (y : A) → p y ≡ true → position p xs ≡ None → position p (xs ++ y ∷ []) ≡ Some (length xs)
-last_hit p [] y e none = position_hit p y [] e
-last_hit p (x ∷ xs) y e none = last_hit_at p x xs y (p x) refl none (last_hit p xs y e)
-
-last_miss_at : {A : Type 0} (p : A → Bool) (x : A) (xs : List A) (y : A) (b : Bool) (o : Option ℕ) → p x ≡ b → position p xs ≡ o → position p (xs ++ y ∷ []) ≡ position p xs → position p (x ∷ xs ++ y ∷ []) ≡ position p (x ∷ xs)
-last_miss_at p x xs y true o e f ih = position_hit p x (xs ++ y ∷ []) e ∙ sym (position_hit p x xs e)
-last_miss_at p x xs y false None e f ih = position_miss p x (xs ++ y ∷ []) e (ih ∙ f) ∙ sym (position_miss p x xs e f)
-last_miss_at p x xs y false (Some i) e f ih = position_behind p x (xs ++ y ∷ []) i e (ih ∙ f) ∙ sym (position_behind p x xs i e f)
-
-last_miss : {A : Type 0} (p : A → Bool) (xs : List A) (y : A) → p y ≡ false → position p (xs ++ y ∷ []) ≡ position p xs
-last_miss p [] y e = position_miss p y [] e refl
-last_miss p (x ∷ xs) y e = last_miss_at p x xs y (p x) (position p xs) refl refl (last_miss p xs y e)
 
 at_key : (m q : MemberId) → is_at (key_cmp (m.class, m.member)) (q.class, q.member) ≡ is_method m q
 at_key m q = sym (tied_then (nat_cmp m.class q.class) (nat_cmp m.member q.member)) ∙ rw (unsigned_tied m.class q.class, unsigned_tied m.member q.member) refl
@@ -74,9 +37,9 @@ one_place : (old new : BTreeMap (ℕ × ℕ) ℕ) (ms : List MemberId) (m q : Me
 one_place old new ms m q true e h none pushed =
     let same : q ≡ m = is_method_same q m e in
     let here : is_at (key_cmp (m.class, m.member)) (q.class, q.member) ≡ true = at_key m q ∙ same_is_method m q (sym same) in
-    pushed (q.class, q.member) ∙ ap (λ b. if b then Some (length ms) else place_in old (q.class, q.member)) here ∙ sym (last_hit (is_method q) ms m e (subst (λ x. position (is_method x) ms ≡ None) (sym same) none))
+    pushed (q.class, q.member) ∙ ap (λ b. if b then Some (length ms) else place_in old (q.class, q.member)) here ∙ sym (position_last (is_method q) ms m e (subst (λ x. position (is_method x) ms ≡ None) (sym same) none))
 one_place old new ms m q false e h none pushed =
-    pushed (q.class, q.member) ∙ ap (λ b. if b then Some (length ms) else place_in old (q.class, q.member)) (at_key m q ∙ apart m q (is_method m q) refl e) ∙ h q ∙ sym (last_miss (is_method q) ms m e)
+    pushed (q.class, q.member) ∙ ap (λ b. if b then Some (length ms) else place_in old (q.class, q.member)) (at_key m q ∙ apart m q (is_method m q) refl e) ∙ h q ∙ sym (position_push (is_method q) ms m e)
 
 same_places : (old new : BTreeMap (ℕ × ℕ) ℕ) (ms now : List MemberId) → now ≡ ms → new.entries ≡ old.entries → HasPlaces old ms → HasPlaces new now
 same_places old new ms now e f h = λ q. ap (λ es. lookup (is_at (key_cmp (q.class, q.member))) es) f ∙ h q ∙ ap (λ xs. position (is_method q) xs) (sym e)

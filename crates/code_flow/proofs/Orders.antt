@@ -7,6 +7,7 @@ use Rattle.std.proofs.lemmas.List.{length-append, length-map}
 use Rattle.std.proofs.lemmas.List.Elements.{All-nil, All-push, All-weaker, recursion_from_All, Contains-append_left, Contains-append_right}
 use Rattle.std.proofs.lemmas.List.Sorted.{length_permutation, All-permutation, Contains-permutation}
 use Rattle.std.proofs.lemmas.Option.{slice_get-map, slice_get-get_or, get_or_from_slice_get, slice_get_within}
+use Rattle.common_laws.proofs.Members.{contains_head}
 use Rattle.world.specs.declared.member.MemberId.{MemberId}
 use Rattle.class_hierarchy.specs.World.{World}
 use Rattle.code_flow.specs.declared.checking.Check.{Check}
@@ -20,7 +21,6 @@ use Rattle.code_flow.specs.Scanned.{planned_by, IsListed}
 use Rattle.code_flow.specs.Checking.{checked_scan, first_from}
 use Rattle.code_flow.specs.Returning.{TellsBack, IsCheck}
 use Rattle.code_flow.specs.CalleeOrder.{AreBelow, IsByNumber}
-use Rattle.code_flow.proofs.Members.{contains_head}
 use Rattle.code_flow.proofs.ReachedLaws.{reached_looked}
 use Rattle.code_flow.proofs.FaultLaws.{fault_at, not_back, place_callee, few_without_fault}
 use Rattle.code_flow.proofs.ProgramLaws.{planned_method, call_place, answered, no_fault}

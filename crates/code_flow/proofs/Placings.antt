@@ -1,7 +1,7 @@
 -- Instructions one behind another.
 use Rattle.std.proofs.Common.{◌≡◌, ℕ, zero, suc, ◌+◌, ◌<◌, ◌≤◌, false, List, [], ◌∷◌, ◌++◌, length, map, Option, Some, None, arith, refl, sym, ap, ◌∙◌, append_assoc, All}
 use Rattle.std.specs.Prelude.{Result, Ok, Err, nat_lt}
-use Rattle.std.proofs.lemmas.Bool.{lt-ltb}
+use Rattle.std.proofs.lemmas.Bool.{lt-ltb, le-ltb}
 use Rattle.op_table.specs.declared.instr.Instr.{Instr}
 use Rattle.op_table.specs.declared.instr.OpFault.{OpFault}
 use Rattle.op_table.specs.Grammar.{instr_at}
@@ -14,18 +14,15 @@ use Rattle.code_flow.specs.ThereScanning.{HasTargets}
 abbrev pub place : ℕ → Instr → Placed
 place pc i = record { pc = pc; instr = i }
 
-not_in : (pc n : ℕ) → n ≤ pc → nat_lt pc n ≡ false
-not_in pc n le = grind arith
-
 placed_past : (n : ℕ) (code : List ℕ) (pc : ℕ) → length code ≤ pc → placed_from n code pc ≡ []
 unfolding placed_from
 placed_past zero code pc le = refl
-placed_past (suc n) code pc le = rw (not_in pc (length code) le) refl
+placed_past (suc n) code pc le = rw (le-ltb pc (length code) le) refl
 
 broken_past : (n : ℕ) (code : List ℕ) (pc : ℕ) → length code ≤ pc → broken_from n code pc ≡ None
 unfolding broken_from
 broken_past zero code pc le = refl
-broken_past (suc n) code pc le = rw (not_in pc (length code) le) refl
+broken_past (suc n) code pc le = rw (le-ltb pc (length code) le) refl
 
 placed_none : (code : List ℕ) (pc : ℕ) → placed_from 0 code pc ≡ []
 unfolding placed_from

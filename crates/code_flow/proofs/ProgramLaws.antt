@@ -5,6 +5,7 @@ use Rattle.std.proofs.lemmas.Option.{slice_get_cases}
 use Rattle.std.specs.List.{AllByRecursion}
 use Rattle.std.proofs.lemmas.List.{get_or-map, length-map, take_all}
 use Rattle.std.proofs.lemmas.List.Elements.{recursion_from_All, Contains-get_or}
+use Rattle.common_laws.proofs.Members.{in_map, from_map}
 use Rattle.class_pool.specs.declared.target.Target.{Target}
 use Rattle.world.specs.declared.member.MemberId.{MemberId}
 use Rattle.class_hierarchy.specs.World.{World}
@@ -17,7 +18,6 @@ use Rattle.code_flow.specs.Flow.{first_fault, planned, unless, flow_from, flow_a
 use Rattle.code_flow.specs.Program.{IsFree, Calls, CallsLead, IsProgram}
 use Rattle.code_flow.specs.Program.CallsLead.{once, through}
 use Rattle.code_flow.proofs.Members.{listed_among}
-use Rattle.code_flow.proofs.Mapped.{in_map, from_map}
 use Rattle.code_flow.proofs.ReachedLaws.{reached_looked, reached_closed, leads_among, listed_from_callee}
 use Rattle.code_flow.proofs.FaultLaws.{fault_at, free_of, not_back, instruction_place, place_callee, few_without_fault}
 

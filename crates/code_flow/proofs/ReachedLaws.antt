@@ -3,12 +3,14 @@ use Rattle.std.proofs.Common.{◌≡◌, ◌⊎◌, inl, inr, ℕ, zero, suc, �
 use Rattle.std.specs.Prelude.{Contains, slice_get}
 use Rattle.std.proofs.lemmas.Bool.{cases_lt}
 use Rattle.std.proofs.lemmas.Option.{get_or_from_slice_get, slice_get-get_or, slice_get_cases, slice_get_within}
+use Rattle.common_laws.proofs.Repeats.{no_longer}
+use Rattle.common_laws.proofs.Members.{contains_cases, contains_none}
 use Rattle.world.specs.declared.member.MemberId.{MemberId}
 use Rattle.class_hierarchy.specs.World.{World}
 use Rattle.code_flow.specs.Listing.{most_methods, is_among, callees, with_new, listed_then, listed, reached, Leads}
 use Rattle.code_flow.specs.Listing.Leads.{calls, through}
 use Rattle.code_flow.specs.Program.{IsListing}
-use Rattle.code_flow.proofs.Members.{contains_cases, contains_none, listed_among, among_listed, no_longer}
+use Rattle.code_flow.proofs.Members.{listed_among, among_listed}
 use Rattle.code_flow.proofs.ListingLaws.{Once, grown_keeps, grown_at, grown_longer, with_new_grows, with_new_from, with_new_there, with_new_once}
 
 leads_on : (w : World) (m t u : MemberId) → Leads w m t → is_among (callees w t) u ≡ true → Leads w m u

@@ -65,10 +65,6 @@ or_assoc : (a b c : Option FlowFault) → option_or (option_or a b) c ≡ option
 or_assoc None b c = refl
 or_assoc (Some x) b c = refl
 
-or_none : (a : Option FlowFault) → option_or a None ≡ a
-or_none None = refl
-or_none (Some x) = refl
-
 pub first_append : {A : Type 0} (f : A → Option FlowFault) (xs ys : List A) → first_of f (xs ++ ys) ≡ option_or (first_of f xs) (first_of f ys)
 unfolding first_of
 first_append f [] ys = refl

@@ -1,6 +1,7 @@
 -- What a scan of a method finds.
 use Rattle.std.proofs.Common.{◌≡◌, ℕ, zero, suc, ◌<◌, List, [], ◌∷◌, length, Option, Some, None, arith, refl, ◌∙◌}
 use Rattle.std.specs.Prelude.{slice_get, slice_index_or}
+use Rattle.std.proofs.lemmas.Option.{slice_get-get_or}
 use Rattle.class_reader.specs.declared.class.Code.{Code}
 use Rattle.world.specs.declared.member.MemberId.{MemberId}
 use Rattle.class_hierarchy.specs.World.{World, constructor, object_class, class_at}
@@ -10,15 +11,10 @@ use Rattle.machine.specs.Outcome.{method_at, code_at}
 use Rattle.code_flow.specs.Flow.{with_code}
 use Rattle.code_flow.specs.Scanning.{sites_of, first_against, scan_in, scan_of}
 
-get_there : {A : Type 0} (xs : List A) (i : ℕ) (d : A) → i < length xs → slice_get xs i ≡ Some (slice_index_or xs i d)
-get_there [] i d lt = absurd (omega arith)
-get_there (x ∷ xs) zero d lt = refl
-get_there (x ∷ xs) (suc i) d lt = get_there xs i d (omega arith)
-
 pub method_there : (w : World) (m : MemberId) → HasMethod w m → method_at w m ≡ Some (method_of w m)
 method_there w m there =
-    let at_class : slice_get w m.class ≡ Some (class_at w m.class) = get_there w m.class object_class there.0 in
-    rw at_class (get_there (class_at w m.class).methods m.member constructor there.1)
+    let at_class : slice_get w m.class ≡ Some (class_at w m.class) = slice_get-get_or w m.class object_class there.0 in
+    rw at_class (slice_get-get_or (class_at w m.class).methods m.member constructor there.1)
 
 pub scan_there : (w : World) (m : MemberId) → HasMethod w m → scan_of w m ≡ scan_in w m (method_of w m) (method_of w m).code
 unfolding scan_of

@@ -6,6 +6,7 @@ use Rattle.std.specs.Cmp.Lexicographic.{slice_cmp}
 use Rattle.std.proofs.lemmas.Cmp.{nat_list_cmp_total}
 use Rattle.std.specs.declared.cmp.Ordering.TheVariants.{Greater}
 use Rattle.std.specs.Ordering.{ordering_reverse}
+use Rattle.common_laws.proofs.Orders.{one_list}
 use Rattle.world.specs.declared.member.MemberId.{MemberId}
 use Rattle.world.specs.declared.fault.ResolveFault.{ResolveFault}
 use Rattle.world.specs.declared.fault.ResolveFault.TheVariants as resolve
@@ -39,67 +40,10 @@ collects_below w c m (suc n) names there le = by_receiver w c m n (selected_belo
 
 -- ---- lists in order
 
-cases_at : (x : MemberId) (xs : List MemberId) (u : MemberId) (k : ℕ) → k < length (x ∷ xs) → get_or (x ∷ xs) k u ≡ u → (x ≡ u) ⊎ Contains xs u
-cases_at x xs u zero lt e = inl e
-cases_at x xs u (suc k) lt e = inr (k, omega arith, e)
-
-contains_cases : (x : MemberId) (xs : List MemberId) (u : MemberId) → Contains (x ∷ xs) u → (x ≡ u) ⊎ Contains xs u
-contains_cases x xs u h = cases_at x xs u h.0 h.1 h.2
-
-contains_head : (x : MemberId) (xs : List MemberId) → Contains (x ∷ xs) x
-contains_head x xs = (0, omega arith, refl)
-
-contains_tail : (x : MemberId) (xs : List MemberId) (u : MemberId) → Contains xs u → Contains (x ∷ xs) u
-contains_tail x xs u h = (suc h.0, omega (arith, h.1), h.2)
-
-none_in : (u : MemberId) → Contains [] u → ⊥
-none_in u h = omega (arith, h.1)
-
-head_before : (w : World) (x : MemberId) (xs : List MemberId) (u : MemberId) → AllPairs (IsBefore w) (x ∷ xs) → Contains xs u → IsBefore w x u
-head_before w x xs u h c = subst (λ v. IsBefore w x v) c.2 (h 0 (suc c.0) u (omega arith) (omega (arith, c.1)))
-
-tail_pairs : (w : World) (x : MemberId) (xs : List MemberId) → AllPairs (IsBefore w) (x ∷ xs) → AllPairs (IsBefore w) xs
-tail_pairs w x xs h = λ i j d lt within. h (suc i) (suc j) d (omega arith) (omega arith)
-
 not_both : (w : World) (s t : MemberId) → IsBefore w s t → IsBefore w t s → ⊥
 not_both w s t b d =
     let e : slice_cmp nat_cmp (class_at w t.class).name (class_at w s.class).name ≡ Greater = nat_list_cmp_total.antisymm (class_at w t.class).name (class_at w s.class).name ∙ ap ordering_reverse b in
     absurd cc
-
-not_self : (w : World) (s : MemberId) → IsBefore w s s → ⊥
-not_self w s b = not_both w s s b b
-
-same_head : (w : World) (x y : MemberId) (xs ys : List MemberId) → AllPairs (IsBefore w) (x ∷ xs) → AllPairs (IsBefore w) (y ∷ ys) → Contains (y ∷ ys) x → Contains (x ∷ xs) y → x ≡ y
-same_head w x y xs ys hx hy cx cy = elim (contains_cases y ys x cx) [
-  | inl e ↦ sym e
-  | inr d ↦ elim (contains_cases x xs y cy) [
-    | inl e ↦ e
-    | inr f ↦ absurd (not_both w y x (head_before w y ys x hy d) (head_before w x xs y hx f))
-  ]
-]
-
-tail_in : (w : World) (x : MemberId) (xs ys : List MemberId) (u : MemberId) → AllPairs (IsBefore w) (x ∷ xs) → Contains xs u → Contains (x ∷ ys) u → Contains ys u
-tail_in w x xs ys u h c d = elim (contains_cases x ys u d) [
-  | inl e ↦ absurd (not_self w x (subst (λ v. IsBefore w x v) (sym e) (head_before w x xs u h c)))
-  | inr f ↦ f
-]
-
-abbrev Same : List MemberId → List MemberId → Type 0
-Same xs ys = (u : MemberId) → (Contains xs u → Contains ys u) × (Contains ys u → Contains xs u)
-
-tails_same : (w : World) (x : MemberId) (xs ys : List MemberId) → AllPairs (IsBefore w) (x ∷ xs) → AllPairs (IsBefore w) (x ∷ ys) → Same (x ∷ xs) (x ∷ ys) → Same xs ys
-tails_same w x xs ys hx hy same = λ u. (λ c. tail_in w x xs ys u hx c ((same u).0 (contains_tail x xs u c)), λ c. tail_in w x ys xs u hy c ((same u).1 (contains_tail x ys u c)))
-
-one_list : (w : World) (xs ys : List MemberId) → AllPairs (IsBefore w) xs → AllPairs (IsBefore w) ys → Same xs ys → xs ≡ ys
-one_list w [] [] hx hy same = refl
-one_list w [] (y ∷ ys) hx hy same = absurd (none_in y ((same y).1 (contains_head y ys)))
-one_list w (x ∷ xs) [] hx hy same = absurd (none_in x ((same x).0 (contains_head x xs)))
-one_list w (x ∷ xs) (y ∷ ys) hx hy same =
-    let e : x ≡ y = same_head w x y xs ys hx hy ((same x).0 (contains_head x xs)) ((same y).1 (contains_head y ys)) in
-    let hz : AllPairs (IsBefore w) (x ∷ ys) = subst (λ z. AllPairs (IsBefore w) (z ∷ ys)) (sym e) hy in
-    let sz : Same (x ∷ xs) (x ∷ ys) = subst (λ z. Same (x ∷ xs) (z ∷ ys)) (sym e) same in
-    let rest : xs ≡ ys = one_list w xs ys (tail_pairs w x xs hx) (tail_pairs w x ys hz) (tails_same w x xs ys hx hz sz) in
-    ap (λ z. z ∷ xs) e ∙ ap (λ zs. y ∷ zs) rest
 
 -- ---- faults by their rank
 
@@ -127,7 +71,7 @@ one_rank f g le ge = let e : rank f ≡ rank g = omega (arith, le, ge) in sym (b
 -- ---- the answers
 
 targets_by : (w : World) (c : ℕ) (m : MemberId) (s : Selected) (xs : List MemberId) (f : Option ResolveFault) → s.fault ≡ f → CollectsAll w c m (length w) s → AreTargets w c m xs → (s.fault ≡ None) × (s.targets ≡ xs)
-targets_by w c m s xs None e h a = (e, one_list w s.targets xs h.in_order a.in_order (λ u. (λ k. (a.all u).1 ((h.all u).0 k), λ k. (h.all u).1 ((a.all u).0 k))))
+targets_by w c m s xs None e h a = (e, one_list (IsBefore w) (not_both w) s.targets xs h.in_order a.in_order (λ u. (λ k. (a.all u).1 ((h.all u).0 k), λ k. (h.all u).1 ((a.all u).0 k))))
 targets_by w c m s xs (Some fault) e h a = let first : IsFirstBelow w c m (length w) (Some fault) = subst (λ o. IsFirstBelow w c m (length w) o) e h.first in absurd (a.no_fault fault first.0)
 
 fault_by : (w : World) (c : ℕ) (m : MemberId) (s : Selected) (fault : ResolveFault) (f : Option ResolveFault) → s.fault ≡ f → CollectsAll w c m (length w) s → IsFirstFault w c m fault → s.fault ≡ Some fault

@@ -2,6 +2,7 @@
 use Rattle.std.proofs.Common.{◌≡◌, ℕ, zero, suc, ◌+◌, ◌-◌, ◌≤◌, Bool, true, false, List, [], ◌∷◌, ◌++◌, length, take, drop, Option, Some, None, refl, sym, ◌∙◌, ap, arith}
 use Rattle.std.specs.Prelude.{◌&&◌, if◌then◌else◌, nat_le, nat_lt, IsSome}
 use Rattle.std.proofs.lemmas.List.{length-append, length-drop}
+use Rattle.std.proofs.lemmas.Bool.{and_parts}
 use Rattle.op_table.specs.declared.acts.Shuffle.{Shuffle}
 use Rattle.op_table.specs.declared.acts.Shuffle.TheVariants.{Pop, Pop2, Dup, DupX1, DupX2, Dup2, Dup2X1, Dup2X2, Swap}
 use Rattle.machine.specs.declared.values.Value.{Value}
@@ -39,15 +40,10 @@ case_if : (b : Bool) (x : List Value) → IsSome (if b then Some x else None) �
 case_if true x some = refl
 case_if false x some = absurd (never some)
 
-and_both : (a b : Bool) → a && b ≡ true → (a ≡ true) × (b ≡ true)
-and_both true true is = (refl, refl)
-and_both true false is = absurd (cc)
-and_both false b is = absurd (cc)
-
 pub moves : (s : Shuffle) (stack : List Value) → IsSome (shuffled s stack) → Moves s stack
 moves s stack some =
     let whole = case_if (is_whole (top_size s) stack && is_whole (below_size s) (drop (top_size s) stack)) (moved_words s stack) some in
-    let both = and_both (is_whole (top_size s) stack) (is_whole (below_size s) (drop (top_size s) stack)) whole in
+    let both = and_parts (is_whole (top_size s) stack) (is_whole (below_size s) (drop (top_size s) stack)) whole in
     record {
       long = omega (arith, whole_long (top_size s) stack both.0, whole_long (below_size s) (drop (top_size s) stack) both.1, length-drop (top_size s) stack);
       made = rw whole refl;

@@ -5,10 +5,11 @@ use Rattle.std.specs.List.{list_all, list_any, AllByRecursion}
 use Rattle.std.specs.Option.{option_map_or}
 use Rattle.std.specs.Cmp.{signed_Decides}
 use Rattle.std.specs.Ordering.{int_eq}
-use Rattle.std.proofs.lemmas.Bool.{ltb-true, lt-ltb, leb-true, le-leb, eqb-true, eq-eqb}
+use Rattle.std.proofs.lemmas.Bool.{ltb-true, lt-ltb, leb-true, le-leb, eqb-true, eq-eqb, and_parts, and_from, not-true, not_from_false, false_from_ne_true}
 use Rattle.std.proofs.lemmas.List.Folds.{Any-from_list_any, list_any-from_Any, list_any_none, list_any_at, list_all-append}
 use Rattle.std.proofs.lemmas.List.Sums.{AllPass-from_list_all, list_all-from_AllPass}
 use Rattle.std.proofs.lemmas.List.Elements.{All-contains, Contains-append_left, Contains-append_right, Contains-append_cases, Contains-get_or}
+use Rattle.common_laws.proofs.Members.{contains_tail, in_flat, from_flat}
 use Rattle.op_table.specs.declared.acts.Width.TheVariants as widths
 use Rattle.class_reader.specs.declared.class.Field.{Field}
 use Rattle.class_reader.specs.Descriptor.{IsFieldDescriptor}
@@ -22,28 +23,6 @@ use Rattle.machine.specs.Numbers.{fits}
 use Rattle.machine.specs.Heap.{Cells, own_fields, is_object_field, is_of_type, object_fields}
 use Rattle.machine.specs.Entry.{IsObject, IsArray, IsInRange, Agrees}
 use Rattle.machine.specs.EnteringCells.{agrees, own_holds, is_object, is_in_range, left_in, is_member, has_each, has_value, is_known, are_known, are_distinct, are_items}
-
--- ---- tests of two
-
-pub both_true : (x y : Bool) → IsTrue (x && y) → IsTrue x × IsTrue y
-both_true true y is = (refl, is)
-both_true false y is = absurd cc
-
-pub true_both : (x y : Bool) → IsTrue x → IsTrue y → IsTrue (x && y)
-true_both true y first second = second
-true_both false y first second = absurd cc
-
-true_or_false : (x : Bool) → (x ≡ true → ⊥) → x ≡ false
-true_or_false true not_true = absurd (not_true refl)
-true_or_false false not_true = refl
-
-not_false : (x : Bool) → not x ≡ true → x ≡ false
-not_false true is = absurd cc
-not_false false is = refl
-
-false_not : (x : Bool) → x ≡ false → not x ≡ true
-false_not true is = absurd cc
-false_not false is = refl
 
 -- ---- values
 
@@ -59,9 +38,9 @@ int_in value z = z
 range_is : (type : List ℕ) (value : Value) → IsTrue (is_in_range type value) ↔ IsInRange type value
 range_is type (Int n) = (
   λ is.
-      let parts : IsTrue (fits widths.Int n) × IsTrue (int_eq (left_in type n) n) = both_true (fits widths.Int n) (int_eq (left_in type n) n) is in
+      let parts : IsTrue (fits widths.Int n) × IsTrue (int_eq (left_in type n) n) = and_parts (fits widths.Int n) (int_eq (left_in type n) n) is in
       (parts.0, narrowed_left type n ∙ ap Int ((signed_Decides (left_in type n) n).0 parts.1)),
-  λ is. true_both (fits widths.Int n) (int_eq (left_in type n) n) is.0 ((signed_Decides (left_in type n) n).1 (ap (λ (v : Value). int_in v n) (sym (narrowed_left type n) ∙ is.1))),
+  λ is. and_from (fits widths.Int n) (int_eq (left_in type n) n) is.0 ((signed_Decides (left_in type n) n).1 (ap (λ (v : Value). int_in v n) (sym (narrowed_left type n) ∙ is.1))),
 )
 range_is type (Long n) = (λ is. is, λ is. is)
 range_is type Pad = (λ is. tt, λ is. refl)
@@ -71,26 +50,26 @@ range_is type (Ref r) = (λ is. tt, λ is. refl)
 pub agreeing_is : (w : World) (heap : Cells) (type : List ℕ) (value : Value) → IsTrue (agrees w heap type value) ↔ Agrees w heap type value
 agreeing_is w heap type value = (
   λ is.
-      let parts : IsTrue (is_of_type w heap type value) × IsTrue (is_in_range type value) = both_true (is_of_type w heap type value) (is_in_range type value) is in
+      let parts : IsTrue (is_of_type w heap type value) × IsTrue (is_in_range type value) = and_parts (is_of_type w heap type value) (is_in_range type value) is in
       (parts.0, (range_is type value).0 parts.1),
-  λ is. true_both (is_of_type w heap type value) (is_in_range type value) is.0 ((range_is type value).1 is.1),
+  λ is. and_from (is_of_type w heap type value) (is_in_range type value) is.0 ((range_is type value).1 is.1),
 )
 
 items_is : (w : World) (heap : Cells) (element : List ℕ) (items : List Value) → IsTrue (list_all (agrees w heap element) items) ↔ AllByRecursion (Agrees w heap element) items
 items_is w heap element [] = (λ is. tt, λ is. refl)
 items_is w heap element (value ∷ items) = (
   λ is.
-      let parts : IsTrue (agrees w heap element value) × IsTrue (list_all (agrees w heap element) items) = both_true (agrees w heap element value) (list_all (agrees w heap element) items) is in
+      let parts : IsTrue (agrees w heap element value) × IsTrue (list_all (agrees w heap element) items) = and_parts (agrees w heap element value) (list_all (agrees w heap element) items) is in
       ((agreeing_is w heap element value).0 parts.0, (items_is w heap element items).0 parts.1),
-  λ is. true_both (agrees w heap element value) (list_all (agrees w heap element) items) ((agreeing_is w heap element value).1 is.0) ((items_is w heap element items).1 is.1),
+  λ is. and_from (agrees w heap element value) (list_all (agrees w heap element) items) ((agreeing_is w heap element value).1 is.0) ((items_is w heap element items).1 is.1),
 )
 
 pub array_is : (w : World) (heap : Cells) (element : List ℕ) (items : List Value) → IsFieldDescriptor (91 ∷ element) → IsTrue (are_items w heap element items) ↔ IsArray w heap element items
 array_is w heap element items described = (
   λ is.
-      let parts : IsTrue (nat_le (length items) 2147483647) × IsTrue (list_all (agrees w heap element) items) = both_true (nat_le (length items) 2147483647) (list_all (agrees w heap element) items) is in
+      let parts : IsTrue (nat_le (length items) 2147483647) × IsTrue (list_all (agrees w heap element) items) = and_parts (nat_le (length items) 2147483647) (list_all (agrees w heap element) items) is in
       record { described = described; few = leb-true (length items) 2147483647 parts.0; each = (items_is w heap element items).0 parts.1 },
-  λ is. true_both (nat_le (length items) 2147483647) (list_all (agrees w heap element) items) (le-leb (length items) 2147483647 is.few) ((items_is w heap element items).1 is.each),
+  λ is. and_from (nat_le (length items) 2147483647) (list_all (agrees w heap element) items) (le-leb (length items) 2147483647 is.few) ((items_is w heap element items).1 is.each),
 )
 
 -- ---- fields of a class
@@ -106,9 +85,6 @@ own_at test class place i [] field inside is = absurd (omega arith)
 own_at test class place zero (f ∷ fields) field inside is =
     rw is (own_cons test (is_object_field f) (member class place, f.desc) (own_fields class (suc place) fields))
 own_at test class place (suc i) (f ∷ fields) field inside is = own_at test class place i fields field (omega arith) is
-
-contains_cons : {A : Type 0} (x y : A) (xs : List A) → Contains xs y → Contains (x ∷ xs) y
-contains_cons x y xs (k, inside, is) = (suc k, omega arith, is)
 
 -- a field of an object, by its place in its class
 pub record IsAt (fields : List Field) (class place : ℕ) (m : MemberId) (type : List ℕ) : Type 0 where
@@ -152,7 +128,7 @@ if_first true x xs is = (0, omega arith, refl)
 if_first false x xs is = absurd cc
 
 if_rest : {A : Type 0} (b : Bool) (x y : A) (xs : List A) → Contains xs y → Contains (if b then x ∷ xs else xs) y
-if_rest true x y xs there = contains_cons x y xs there
+if_rest true x y xs there = contains_tail x xs y there
 if_rest false x y xs there = there
 
 own_is_at : (fields : List Field) (class place : ℕ) (m : MemberId) (type : List ℕ) → Contains (own_fields class place fields) (m, type) → IsAt fields class place m type
@@ -175,41 +151,17 @@ own_contains (g ∷ fields) class place (suc i) n f there of at =
 
 -- ---- all classes of a line
 
-contains_flat : {A B : Type 0} (g : A → List B) (xs : List A) (x : A) (y : B) → Contains xs x → Contains (g x) y → Contains (flat_map g xs) y
-contains_flat g [] x y (k, inside, is) there = absurd (omega arith)
-contains_flat {A = A} g (first ∷ xs) x y (zero, inside, is) there = Contains-append_left (g first) (flat_map g xs) y (subst (λ (z : A). Contains (g z) y) (sym is) there)
-contains_flat g (first ∷ xs) x y (suc k, inside, is) there = Contains-append_right (g first) (flat_map g xs) y (contains_flat g xs x y (k, omega arith, is) there)
-
-pub record IsFrom {A B : Type 0} (g : A → List B) (xs : List A) (y : B) : Type 0 where
-  pub source : A
-  pub among : Contains xs source
-  pub gives : Contains (g source) y
-
-from_first : {A B : Type 0} (g : A → List B) (x : A) (xs : List A) (y : B) → Contains (g x) y → IsFrom g (x ∷ xs) y
-from_first g x xs y there = record { source = x; among = (0, omega arith, refl); gives = there }
-
-from_rest : {A B : Type 0} (g : A → List B) (x : A) (xs : List A) (y : B) → IsFrom g xs y → IsFrom g (x ∷ xs) y
-from_rest g x xs y is = record { source = is.source; among = contains_cons x is.source xs is.among; gives = is.gives }
-
-flat_contains : {A B : Type 0} (g : A → List B) (xs : List A) (y : B) → Contains (flat_map g xs) y → IsFrom g xs y
-flat_contains g [] y (k, inside, is) = absurd (omega arith)
-flat_contains g (x ∷ xs) y there =
-    elim (Contains-append_cases (g x) (flat_map g xs) y there) [
-      | inl first ↦ from_first g x xs y first
-      | inr rest ↦ from_rest g x xs y (flat_contains g xs y rest)
-    ]
-
 all_flat : {A B : Type 0} (p : B → Bool) (g : A → List B) (xs : List A) → list_all p (flat_map g xs) ≡ list_all (λ d. list_all p (g d)) xs
 all_flat p g [] = refl
 all_flat p g (x ∷ xs) = list_all-append p (g x) (flat_map g xs) ∙ ap (λ (b : Bool). list_all p (g x) && b) (all_flat p g xs)
 
 member_same : (m n : MemberId) → IsTrue (is_member m n) → m ≡ n
 member_same m n is =
-    let parts : IsTrue (nat_eq m.class n.class) × IsTrue (nat_eq m.member n.member) = both_true (nat_eq m.class n.class) (nat_eq m.member n.member) is in
+    let parts : IsTrue (nat_eq m.class n.class) × IsTrue (nat_eq m.member n.member) = and_parts (nat_eq m.class n.class) (nat_eq m.member n.member) is in
     ap (λ (c : ℕ). member c m.member) (eqb-true m.class n.class parts.0) ∙ ap (member n.class) (eqb-true m.member n.member parts.1)
 
 same_member : (m n : MemberId) → m ≡ n → IsTrue (is_member m n)
-same_member m n is = true_both (nat_eq m.class n.class) (nat_eq m.member n.member) (eq-eqb m.class n.class (ap (λ (x : MemberId). x.class) is)) (eq-eqb m.member n.member (ap (λ (x : MemberId). x.member) is))
+same_member m n is = and_from (nat_eq m.class n.class) (nat_eq m.member n.member) (eq-eqb m.class n.class (ap (λ (x : MemberId). x.class) is)) (eq-eqb m.member n.member (ap (λ (x : MemberId). x.member) is))
 
 -- a value of the field
 abbrev pub HasValue : World → Cells → List (MemberId × Value) → MemberId → List ℕ → Type 0
@@ -219,13 +171,13 @@ value_there : (w : World) (heap : Cells) (fields : List (MemberId × Value)) (m 
 value_there w heap fields m type is =
     let any : Any (λ f. (is_member m f.0 && agrees w heap type f.1) ≡ true) fields = Any-from_list_any (λ (f : MemberId × Value). is_member m f.0 && agrees w heap type f.1) fields is in
     let f : MemberId × Value = any.1 in
-    let parts : IsTrue (is_member m f.0) × IsTrue (agrees w heap type f.1) = both_true (is_member m f.0) (agrees w heap type f.1) any.4 in
+    let parts : IsTrue (is_member m f.0) × IsTrue (agrees w heap type f.1) = and_parts (is_member m f.0) (agrees w heap type f.1) any.4 in
     (f.1, subst (λ (n : MemberId). Contains fields (n, f.1)) (sym (member_same m f.0 parts.0)) (any.0, any.2, any.3), (agreeing_is w heap type f.1).0 parts.1)
 
 there_value : (w : World) (heap : Cells) (fields : List (MemberId × Value)) (m : MemberId) (type : List ℕ) → HasValue w heap fields m type → IsTrue (has_value w heap fields (m, type))
 there_value w heap fields m type (value, (k, inside, is), agree) =
     list_any-from_Any (λ (f : MemberId × Value). is_member m f.0 && agrees w heap type f.1) fields
-    (k, (m, value), inside, is, true_both (is_member m m) (agrees w heap type value) (same_member m m refl) ((agreeing_is w heap type value).1 agree))
+    (k, (m, value), inside, is, and_from (is_member m m) (agrees w heap type value) (same_member m m refl) ((agreeing_is w heap type value).1 agree))
 
 abbrev own_of : World → ℕ → List (MemberId × List ℕ)
 own_of w d = own_fields d 0 (class_at w d).fields
@@ -258,24 +210,24 @@ declares w m = option_map_or is_object_field (slice_get (class_at w m.class).fie
 
 known_to : (w : World) (classes : List ℕ) (m : MemberId) → IsTrue (is_known w classes m) → (type : List ℕ) × Contains (flat_map (own_of w) classes) (m, type)
 known_to w classes m is =
-    let parts : IsTrue (list_any (nat_eq m.class) classes) × IsTrue (declares w m) = both_true (list_any (nat_eq m.class) classes) (declares w m) is in
+    let parts : IsTrue (list_any (nat_eq m.class) classes) × IsTrue (declares w m) = and_parts (list_any (nat_eq m.class) classes) (declares w m) is in
     let any : Any (λ d. nat_eq m.class d ≡ true) classes = Any-from_list_any (nat_eq m.class) classes parts.0 in
     let f : (f : Field) × (slice_get (class_at w m.class).fields m.member ≡ Some f) × (is_object_field f ≡ true) = option_passes (slice_get (class_at w m.class).fields m.member) parts.1 in (
       f.0.desc,
-      contains_flat (own_of w) classes m.class (m, f.0.desc)
+      in_flat (own_of w) classes m.class (m, f.0.desc)
           (subst (λ (d : ℕ). Contains classes d) (sym (eqb-true m.class any.1 any.4)) (any.0, any.2, any.3))
           (own_contains (class_at w m.class).fields m.class 0 m.member m.member f.0 f.1 f.2 (omega arith)),
     )
 
 known_from : (w : World) (classes : List ℕ) (m : MemberId) (type : List ℕ) → Contains (flat_map (own_of w) classes) (m, type) → IsTrue (is_known w classes m)
 known_from w classes m type there =
-    let from : IsFrom (own_of w) classes (m, type) = flat_contains (own_of w) classes (m, type) there in
-    let at : IsAt (class_at w from.source).fields from.source 0 m type = own_is_at (class_at w from.source).fields from.source 0 m type from.gives in
+    let from = from_flat (own_of w) classes (m, type) there in
+    let at : IsAt (class_at w from.0).fields from.0 0 m type = own_is_at (class_at w from.0).fields from.0 0 m type from.2 in
     let place : m.member ≡ at.i = at.at_place ∙ omega arith in
-    true_both (list_any (nat_eq m.class) classes) (declares w m)
-    (list_any-from_Any (nat_eq m.class) classes (from.among.0, from.source, from.among.1, from.among.2, eq-eqb m.class from.source at.of_class))
+    and_from (list_any (nat_eq m.class) classes) (declares w m)
+    (list_any-from_Any (nat_eq m.class) classes (from.1.0, from.0, from.1.1, from.1.2, eq-eqb m.class from.0 at.of_class))
     (passes_option (slice_get (class_at w m.class).fields m.member) at.field
-    (ap (λ (d : ℕ). slice_get (class_at w d).fields m.member) at.of_class ∙ ap (λ (k : ℕ). slice_get (class_at w from.source).fields k) place ∙ at.there) at.of_objects)
+    (ap (λ (d : ℕ). slice_get (class_at w d).fields m.member) at.of_class ∙ ap (λ (k : ℕ). slice_get (class_at w from.0).fields k) place ∙ at.there) at.of_objects)
 
 knowns_to : (w : World) (c : ℕ) (fields : List (MemberId × Value)) → IsTrue (are_known w (line w c) fields) → (m : MemberId) (value : Value) → Contains fields (m, value) → (type : List ℕ) × Contains (object_fields w c) (m, type)
 unfolding object_fields
@@ -299,20 +251,20 @@ once_to [] is i j d before inside same = absurd (omega arith)
 once_to (f ∷ fields) is zero zero d before inside same = absurd (omega arith)
 once_to (f ∷ fields) is (suc i) zero d before inside same = absurd (omega arith)
 once_to (f ∷ fields) is zero (suc j) d before inside same =
-    let parts : IsTrue (not (list_any (λ g. is_member f.0 g.0) fields)) × IsTrue (are_distinct fields) = both_true (not (list_any (λ g. is_member f.0 g.0) fields)) (are_distinct fields) is in
+    let parts : IsTrue (not (list_any (λ g. is_member f.0 g.0) fields)) × IsTrue (are_distinct fields) = and_parts (not (list_any (λ g. is_member f.0 g.0) fields)) (are_distinct fields) is in
     let there : list_any (λ g. is_member f.0 g.0) fields ≡ true = list_any_at (λ (g : MemberId × Value). is_member f.0 g.0) fields j d (omega arith) (same_member f.0 (slice_index_or fields j d).0 same) in
-    let absent : list_any (λ g. is_member f.0 g.0) fields ≡ false = not_false (list_any (λ g. is_member f.0 g.0) fields) parts.0 in
+    let absent : list_any (λ g. is_member f.0 g.0) fields ≡ false = not-true (list_any (λ g. is_member f.0 g.0) fields) parts.0 in
     absurd cc
 once_to (f ∷ fields) is (suc i) (suc j) d before inside same =
-    once_to fields (both_true (not (list_any (λ g. is_member f.0 g.0) fields)) (are_distinct fields) is).1 i j d (omega arith) (omega arith) same
+    once_to fields (and_parts (not (list_any (λ g. is_member f.0 g.0) fields)) (are_distinct fields) is).1 i j d (omega arith) (omega arith) same
 
 once_from : (fields : List (MemberId × Value)) → AllPairs (λ f g. f.0 ≢ g.0) fields → IsTrue (are_distinct fields)
 once_from [] pairs = refl
 once_from (f ∷ fields) pairs =
-    true_both (not (list_any (λ g. is_member f.0 g.0) fields)) (are_distinct fields)
-    (false_not (list_any (λ g. is_member f.0 g.0) fields)
+    and_from (not (list_any (λ g. is_member f.0 g.0) fields)) (are_distinct fields)
+    (not_from_false (list_any (λ g. is_member f.0 g.0) fields)
     (list_any_none (λ (g : MemberId × Value). is_member f.0 g.0) fields
-    (λ k d inside. true_or_false (is_member f.0 (slice_index_or fields k d).0) (λ is. pairs 0 (suc k) d (omega arith) (omega arith) (member_same f.0 (slice_index_or fields k d).0 is)))))
+    (λ k d inside. false_from_ne_true (is_member f.0 (slice_index_or fields k d).0) (λ is. pairs 0 (suc k) d (omega arith) (omega arith) (member_same f.0 (slice_index_or fields k d).0 is)))))
     (once_from fields (λ i j d before inside. pairs (suc i) (suc j) d (omega arith) (omega arith)))
 
 -- ---- objects
@@ -323,10 +275,10 @@ has_all w heap class fields = has_each w heap fields (line w class) && are_known
 pub object_is : (w : World) (heap : Cells) (class : ℕ) (fields : List (MemberId × Value)) → IsTrue (is_object w heap class fields) ↔ IsObject w heap class fields
 object_is w heap class fields = (
   λ is.
-      let first : IsTrue (nat_lt class (length w)) × IsTrue (is_instantiable w class && (are_distinct fields && has_all w heap class fields)) = both_true (nat_lt class (length w)) (is_instantiable w class && (are_distinct fields && has_all w heap class fields)) is in
-      let second : IsTrue (is_instantiable w class) × IsTrue (are_distinct fields && has_all w heap class fields) = both_true (is_instantiable w class) (are_distinct fields && has_all w heap class fields) first.1 in
-      let third : IsTrue (are_distinct fields) × IsTrue (has_all w heap class fields) = both_true (are_distinct fields) (has_all w heap class fields) second.1 in
-      let fourth : IsTrue (has_each w heap fields (line w class)) × IsTrue (are_known w (line w class) fields) = both_true (has_each w heap fields (line w class)) (are_known w (line w class) fields) third.1 in
+      let first : IsTrue (nat_lt class (length w)) × IsTrue (is_instantiable w class && (are_distinct fields && has_all w heap class fields)) = and_parts (nat_lt class (length w)) (is_instantiable w class && (are_distinct fields && has_all w heap class fields)) is in
+      let second : IsTrue (is_instantiable w class) × IsTrue (are_distinct fields && has_all w heap class fields) = and_parts (is_instantiable w class) (are_distinct fields && has_all w heap class fields) first.1 in
+      let third : IsTrue (are_distinct fields) × IsTrue (has_all w heap class fields) = and_parts (are_distinct fields) (has_all w heap class fields) second.1 in
+      let fourth : IsTrue (has_each w heap fields (line w class)) × IsTrue (are_known w (line w class) fields) = and_parts (has_each w heap fields (line w class)) (are_known w (line w class) fields) third.1 in
       record {
         known = ltb-true class (length w) first.0;
         instantiable = second.0;
@@ -335,8 +287,8 @@ object_is w heap class fields = (
         no_other = knowns_to w class fields fourth.1;
       },
   λ is.
-      true_both (nat_lt class (length w)) (is_instantiable w class && (are_distinct fields && has_all w heap class fields)) (lt-ltb class (length w) is.known)
-      (true_both (is_instantiable w class) (are_distinct fields && has_all w heap class fields) is.instantiable
-      (true_both (are_distinct fields) (has_all w heap class fields) (once_from fields is.once)
-      (true_both (has_each w heap fields (line w class)) (are_known w (line w class) fields) (each_from w heap class fields is.each) (knowns_from w class fields is.no_other)))),
+      and_from (nat_lt class (length w)) (is_instantiable w class && (are_distinct fields && has_all w heap class fields)) (lt-ltb class (length w) is.known)
+      (and_from (is_instantiable w class) (are_distinct fields && has_all w heap class fields) is.instantiable
+      (and_from (are_distinct fields) (has_all w heap class fields) (once_from fields is.once)
+      (and_from (has_each w heap fields (line w class)) (are_known w (line w class) fields) (each_from w heap class fields is.each) (knowns_from w class fields is.no_other)))),
 )

@@ -2,13 +2,14 @@
 use Rattle.std.proofs.Common.{◌≡◌, inl, inr, ℕ, zero, suc, ◌≤◌, ◌<◌, ◌+◌, List, [], ◌∷◌, ◌++◌, Bool, true, false, Option, Some, None, length, take, refl, sym, arith, ap, subst, length-append}
 use Rattle.std.specs.Prelude.{slice_index_or, slice_get, nat_lt, map, if◌then◌else◌, ◌||◌, ℤ, pos, codes, ◌==◌}
 use Rattle.std.specs.List.{AllByRecursion}
-use Rattle.std.proofs.lemmas.Bool.{cases_lt, cases_eq, ltb-true, lt-ltb}
+use Rattle.std.proofs.lemmas.Bool.{cases_lt, cases_eq, ltb-true, lt-ltb, and_parts, false_from_ne_true}
 use Rattle.class_reader.specs.declared.class.ClassRecord.{ClassRecord}
 use Rattle.class_reader.specs.declared.class.Field.{Field}
 use Rattle.class_reader.specs.declared.class.Method.{Method}
 use Rattle.class_reader.specs.declared.class.Code.{Code}
 use Rattle.op_table.specs.declared.acts.Small.TheVariants.{Byte, Char, Short}
 use Rattle.std.specs.Int.{int_rem_euclid}
+use Rattle.std.proofs.lemmas.Option.{slice_get_within, slice_get_read}
 use Rattle.world.specs.declared.member.MemberId.{MemberId}
 use Rattle.class_hierarchy.specs.World.{World, class_at}
 use Rattle.machine.specs.declared.values.Value.{Value}
@@ -22,15 +23,12 @@ use Rattle.machine.specs.Calling.{narrowed_int, narrowed_to}
 use Rattle.machine.specs.Entry.{Agrees, AllAgree, AreHanded, AreStatics, IsEntry, argument_types, entry_of, is_number_type, is_static_number, own_statics, statics_from, statics_of, words_of_value, words_of_values}
 use Rattle.machine.specs.Entering.{AllGood, IsFirstBad, IsFirstIn, IsGoodArgument, IsNoNullReceiver, IsSound, zeros}
 use Rattle.class_reader.specs.Flags.{is_static}
-use Rattle.machine.proofs.EnteringCells.{both_true}
-use Rattle.machine.proofs.EnteringLaw.{get_inside, one_there, good_handed}
+use Rattle.machine.proofs.EnteringLaw.{one_there, good_handed}
 
 -- ---- one place
 
 pub get_some : {A : Type 0} (xs : List A) (i : ℕ) (x : A) → i < length xs → x ≡ slice_index_or xs i x → slice_get xs i ≡ Some x
-get_some [] i x inside is = absurd (omega arith)
-get_some (y ∷ xs) zero x inside is = ap Some (sym is)
-get_some (y ∷ xs) (suc i) x inside is = get_some xs i x (omega arith) is
+get_some xs i x inside is = slice_get_read xs (length xs) i x refl inside is
 
 pub words_next : (i : ℕ) (arguments : List Value) (value : Value) → slice_get arguments i ≡ Some value → length (words_of_values (take (suc i) arguments)) ≡ length (words_of_values (take i arguments)) + length (words_of_value value)
 words_next i [] value given = absurd cc
@@ -62,12 +60,8 @@ good_next w heap types method code arguments i words type value wanted given sou
 
 -- ---- all places
 
-test_false : (x : Bool) → (x ≡ true → ⊥) → x ≡ false
-test_false true never = absurd (never refl)
-test_false false never = refl
-
 many_bad : (w : World) (heap : Cells) (types : List (List ℕ)) (method : Method) (code : Code) (arguments : List Value) → length types < length arguments → ((j : ℕ) → j < length types → IsGoodArgument w heap types method code arguments j) → IsFirstBad w heap types method code arguments (length types)
-many_bad w heap types method code arguments more before = record { place = inr more; bad = λ good. (let inside : length types < length types = get_inside types (length types) good.type good.wanted in absurd (omega (arith, inside))); before = before }
+many_bad w heap types method code arguments more before = record { place = inr more; bad = λ good. (let inside : length types < length types = slice_get_within types (length types) good.type good.wanted in absurd (omega (arith, inside))); before = before }
 
 none_bad : (w : World) (heap : Cells) (types : List (List ℕ)) (method : Method) (code : Code) (arguments : List Value) → length arguments ≤ length types → ((j : ℕ) → j < length types → IsGoodArgument w heap types method code arguments j) → AllGood w heap types method code arguments
 none_bad w heap types method code arguments enough before i place = before i (elim place [ inl wanted ↦ wanted | inr given ↦ omega (arith, given) ])
@@ -76,7 +70,7 @@ pub end_is : (w : World) (heap : Cells) (types : List (List ℕ)) (method : Meth
 end_is w heap types method code arguments first is before =
     elim (cases_lt (length types) (length arguments)) [
       | inl more ↦ rw (is, lt-ltb (length types) (length arguments) more) (many_bad w heap types method code arguments more before)
-      | inr enough ↦ rw (is, test_false (nat_lt (length types) (length arguments)) (λ lt. (let more : length types < length arguments = ltb-true (length types) (length arguments) lt in absurd (omega (arith, more, enough))))) (none_bad w heap types method code arguments enough before)
+      | inr enough ↦ rw (is, false_from_ne_true (nat_lt (length types) (length arguments)) (λ lt. (let more : length types < length arguments = ltb-true (length types) (length arguments) lt in absurd (omega (arith, more, enough))))) (none_bad w heap types method code arguments enough before)
     ]
 
 pub handed_at : (w : World) (m : MemberId) (method : Method) (code : Code) (types : List (List ℕ)) (arguments : List Value) (heap : Cells) (first : Option ℕ) → types ≡ argument_types (class_at w m.class) method → first ≡ None → IsFirstIn w heap types method code arguments first → AreHanded w m method code arguments heap
@@ -133,7 +127,7 @@ own_numbers : (class place : ℕ) (fields : List Field) → AreNumbers (own_stat
 own_numbers class place [] = tt
 own_numbers class place (f ∷ fields) =
     with_number (is_static_number f) (record { class = class; member = place }, f.desc) (own_statics class (suc place) fields)
-    (λ static. (both_true (is_static f.flags) (is_number_type f.desc) static).1) (own_numbers class (suc place) fields)
+    (λ static. (and_parts (is_static f.flags) (is_number_type f.desc) static).1) (own_numbers class (suc place) fields)
 
 join_numbers : (xs ys : List (MemberId × List ℕ)) → AreNumbers xs → AreNumbers ys → AreNumbers (xs ++ ys)
 join_numbers [] ys first second = second

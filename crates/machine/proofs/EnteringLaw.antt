@@ -2,6 +2,9 @@
 use Rattle.std.proofs.Common.{◌≡◌, inl, inr, ℕ, zero, suc, ◌≤◌, ◌<◌, List, [], ◌∷◌, Option, Some, length, take, refl, sym, ◌∙◌, arith, ap, subst, length-append}
 use Rattle.std.specs.Prelude.{slice_get, Contains}
 use Rattle.std.proofs.lemmas.Bool.{cases_lt}
+use Rattle.std.proofs.lemmas.Option.{slice_get_within}
+use Rattle.std.proofs.lemmas.List.{take_all}
+use Rattle.common_laws.proofs.Members.{contains_at, place_of}
 use Rattle.class_reader.specs.declared.class.Method.{Method}
 use Rattle.class_reader.specs.declared.class.Code.{Code}
 use Rattle.world.specs.declared.member.MemberId.{MemberId}
@@ -18,21 +21,6 @@ get_there : {A : Type 0} (xs : List A) (i : ℕ) → i < length xs → (x : A) �
 get_there [] i inside = absurd (omega arith)
 get_there (x ∷ xs) zero inside = (x, refl)
 get_there (x ∷ xs) (suc i) inside = get_there xs i (omega arith)
-
-pub get_inside : {A : Type 0} (xs : List A) (i : ℕ) (x : A) → slice_get xs i ≡ Some x → i < length xs
-get_inside [] i x is = absurd cc
-get_inside (y ∷ xs) zero x is = omega arith
-get_inside (y ∷ xs) (suc i) x is = (let rest : i < length xs = get_inside xs i x is in omega arith)
-
-get_contains : {A : Type 0} (xs : List A) (i : ℕ) (x : A) → slice_get xs i ≡ Some x → Contains xs x
-get_contains [] i x is = absurd cc
-get_contains (y ∷ xs) zero x is = (0, omega arith, cc)
-get_contains (y ∷ xs) (suc i) x is = (let rest : Contains xs x = get_contains xs i x is in (suc rest.0, omega (arith, rest.1), rest.2))
-
-contains_get : {A : Type 0} (xs : List A) (x : A) → Contains xs x → (i : ℕ) × (slice_get xs i ≡ Some x)
-contains_get [] x (k, inside, is) = absurd (omega arith)
-contains_get (y ∷ xs) x (zero, inside, is) = (0, ap Some is)
-contains_get (y ∷ xs) x (suc k, inside, is) = (let rest : (i : ℕ) × (slice_get xs i ≡ Some x) = contains_get xs x (k, omega arith, is) in (suc rest.0, rest.1))
 
 pub one_there : {A : Type 0} (o : Option A) (x y : A) → o ≡ Some x → o ≡ Some y → x ≡ y
 one_there o x y first second = (let same : Some x ≡ Some y = sym first ∙ second in cc)
@@ -85,12 +73,6 @@ words_take (suc n) (value ∷ arguments) =
     (let rest : length (words_of_values (take n arguments)) ≤ length (words_of_values arguments) = words_take n arguments in
     rw (length-append (words_of_value value) (words_of_values (take n arguments)), length-append (words_of_value value) (words_of_values arguments)) (omega (arith, rest)))
 
-take_whole : {A : Type 0} (n : ℕ) (xs : List A) → length xs ≤ n → take n xs ≡ xs
-take_whole zero [] all = refl
-take_whole zero (x ∷ xs) all = absurd (omega arith)
-take_whole (suc n) [] all = refl
-take_whole {A = A} (suc n) (x ∷ xs) all = ap (λ (rest : List A). x ∷ rest) (take_whole n xs (omega arith))
-
 -- ---- the law
 
 held_from : (w : World) (heap : Cells) (arguments : List Value) (value : Value) → ((a b : ℕ) → Contains arguments (Ref a) → Reaches heap a b → IsHeld w heap (cell_at heap b)) → Contains arguments value → IsHeldFrom w heap value
@@ -115,7 +97,7 @@ handed_good w m method code arguments heap handed i inside =
       given = value.1;
       sound = record {
         agrees = agree_at w heap types arguments i type.0 value.0 handed.agree type.1 value.1;
-        held = held_from w heap arguments value.0 handed.held (get_contains arguments i value.0 value.1);
+        held = held_from w heap arguments value.0 handed.held (contains_at arguments i value.0 value.1);
         acyclic = length_at heap types arguments i type.0 value.0 handed.acyclic type.1 value.1;
       };
       receiver = λ first other null. handed.receiver other (sym (ap (slice_get arguments) first) ∙ value.1 ∙ ap Some null);
@@ -126,17 +108,17 @@ good_lengths : (w : World) (heap : Cells) (types : List (List ℕ)) (method : Me
 good_lengths w heap types method code arguments all =
     elim (cases_lt (length types) (length arguments)) [
       | inl fewer ↦ (let good : IsGoodArgument w heap types method code arguments (length types) = all (length types) (inr fewer) in
-          let inside : length types < length types = get_inside types (length types) good.type good.wanted in absurd (omega (arith, inside)))
+          let inside : length types < length types = slice_get_within types (length types) good.type good.wanted in absurd (omega (arith, inside)))
       | inr enough ↦ elim (cases_lt (length arguments) (length types)) [
         | inl more ↦ (let good : IsGoodArgument w heap types method code arguments (length arguments) = all (length arguments) (inl more) in
-            let inside : length arguments < length arguments = get_inside arguments (length arguments) good.value good.given in absurd (omega (arith, inside)))
+            let inside : length arguments < length arguments = slice_get_within arguments (length arguments) good.value good.given in absurd (omega (arith, inside)))
         | inr least ↦ omega arith
       ]
     ]
 
 good_sounds : (w : World) (heap : Cells) (types : List (List ℕ)) (method : Method) (code : Code) (arguments : List Value) → AllGood w heap types method code arguments → Sounds w heap types arguments
 good_sounds w heap types method code arguments all i type value wanted given =
-    let good : IsGoodArgument w heap types method code arguments i = all i (inl (get_inside types i type wanted)) in
+    let good : IsGoodArgument w heap types method code arguments i = all i (inl (slice_get_within types i type wanted)) in
     subst (λ (t : List ℕ). IsSound w heap t value) (one_there (slice_get types i) good.type type good.wanted wanted)
     (subst (λ (v : Value). IsSound w heap good.type v) (one_there (slice_get arguments i) good.value value good.given given) good.sound)
 
@@ -145,7 +127,7 @@ good_room w heap types method code [] n all count = omega arith
 good_room w heap types method code (value ∷ arguments) zero all count = absurd (omega (arith, count))
 good_room w heap types method code (value ∷ arguments) (suc n) all count =
     let good : IsGoodArgument w heap types method code (value ∷ arguments) n = all n (inr (omega (arith, count))) in
-    subst (λ (xs : List Value). length (words_of_values xs) ≤ code.max_locals) (take_whole (suc n) (value ∷ arguments) (omega (arith, count))) good.room
+    subst (λ (xs : List Value). length (words_of_values xs) ≤ code.max_locals) (take_all (suc n) (value ∷ arguments) (omega (arith, count))) good.room
 
 pub good_handed : (w : World) (m : MemberId) (method : Method) (code : Code) (arguments : List Value) (heap : Cells) → AllGood w heap (argument_types (class_at w m.class) method) method code arguments → AreHanded w m method code arguments heap
 good_handed w m method code arguments heap all =
@@ -155,11 +137,11 @@ good_handed w m method code arguments heap all =
     record {
       agree = all_agree w heap types arguments same sounds;
       receiver = λ other null.
-          let good : IsGoodArgument w heap types method code arguments 0 = all 0 (inr (get_inside arguments 0 Null null)) in
+          let good : IsGoodArgument w heap types method code arguments 0 = all 0 (inr (slice_get_within arguments 0 Null null)) in
           good.receiver refl other (one_there (slice_get arguments 0) good.value Null good.given null);
       held = λ a b there reaches.
-          let at : (i : ℕ) × (slice_get arguments i ≡ Some (Ref a)) = contains_get arguments (Ref a) there in
-          let good : IsGoodArgument w heap types method code arguments at.0 = all at.0 (inr (get_inside arguments at.0 (Ref a) at.1)) in
+          let at : (i : ℕ) × (slice_get arguments i ≡ Some (Ref a)) = (there.0, place_of arguments (Ref a) there) in
+          let good : IsGoodArgument w heap types method code arguments at.0 = all at.0 (inr (slice_get_within arguments at.0 (Ref a) at.1)) in
           subst (λ (v : Value). IsHeldFrom w heap v) (one_there (slice_get arguments at.0) good.value (Ref a) good.given at.1) good.sound.held b reaches;
       acyclic = all_lengths w heap types arguments sounds;
       room = good_room w heap types method code arguments (length arguments) all refl;

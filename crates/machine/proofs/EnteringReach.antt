@@ -3,7 +3,7 @@ use Rattle.std.proofs.Common.{◌≡◌, ◌≢◌, ◌↔◌, inl, inr, ℕ, ze
 use Rattle.std.specs.Prelude.{slice_index_or, Contains, AllPairs, map, not, ◌&&◌}
 use Rattle.std.proofs.lemmas.List.{get_or_default}
 use Rattle.std.proofs.lemmas.List.Elements.{All-from_recursion, All-contains}
-use Rattle.std.proofs.lemmas.Bool.{cases_eq, cases_lt}
+use Rattle.std.proofs.lemmas.Bool.{cases_eq, cases_lt, and_parts, and_from, not_from_false, false_from_ne_true}
 use Rattle.graph_core.specs.Graphs.{HasEdge, EndsAtNodes}
 use Rattle.graph_core.specs.Paths as paths
 use Rattle.graph_core.proofs.Reach.{Reaches-itself, Reaches-before, Reaches-through, Reaches-node}
@@ -18,7 +18,6 @@ use Rattle.machine.specs.declared.entering_heap.Survey.{Survey}
 use Rattle.machine.specs.Heap.{Cells, cell_at, is_of_type, is_instance}
 use Rattle.machine.specs.Entry.{IsHeld, IsObject, IsArray, Agrees, values_in, Leads, refers, through, Reaches, IsAcyclic}
 use Rattle.machine.specs.EnteringHeap.{IsGraph, IsMark, IsSurvey, OnCycle, AllPass, passes}
-use Rattle.machine.proofs.EnteringCells.{both_true, true_both}
 
 -- ---- what is held refers to numbers of the heap
 
@@ -123,18 +122,14 @@ cycle_from heap g graph b (c, edge, together) =
 -- ---- what passes
 
 pass_held : (acyclic : Bool) (mark : Mark) → IsTrue (passes acyclic mark) → IsTrue mark.held
-pass_held acyclic mark is = (both_true mark.held (not (acyclic && mark.cyclic)) is).0
+pass_held acyclic mark is = (and_parts mark.held (not (acyclic && mark.cyclic)) is).0
 
 pass_acyclic : (mark : Mark) → IsTrue (passes true mark) → mark.cyclic ≡ true → ⊥
-pass_acyclic mark is cyclic = (let rest : IsTrue (not mark.cyclic) = (both_true mark.held (not mark.cyclic) is).1 in absurd cc)
-
-not_so : (b : Bool) → (b ≡ true → ⊥) → not b ≡ true
-not_so true never = absurd (never refl)
-not_so false never = refl
+pass_acyclic mark is cyclic = (let rest : IsTrue (not mark.cyclic) = (and_parts mark.held (not mark.cyclic) is).1 in absurd cc)
 
 does_pass : (acyclic : Bool) (mark : Mark) → IsTrue mark.held → (IsTrue acyclic → mark.cyclic ≡ true → ⊥) → IsTrue (passes acyclic mark)
-does_pass false mark held never = true_both mark.held true held refl
-does_pass true mark held never = true_both mark.held (not mark.cyclic) held (not_so mark.cyclic (never refl))
+does_pass false mark held never = and_from mark.held true held refl
+does_pass true mark held never = and_from mark.held (not mark.cyclic) held (not_from_false mark.cyclic (false_from_ne_true mark.cyclic (never refl)))
 
 -- what the number reaches is held, and on no cycle where none is allowed
 abbrev pub ReachesSound : World → Cells → Bool → ℕ → Type 0

@@ -1,7 +1,7 @@
 -- Types by their elements.
 use Rattle.std.proofs.Common.{◌≡◌, ◌≢◌, ℕ, ◌≤◌, ◌<◌, List, [], ◌∷◌, Bool, true, false, length, drop, refl, sym, ◌∙◌, arith}
 use Rattle.std.specs.Prelude.{◌||◌, ◌&&◌, ◌==◌, slice_index_or}
-use Rattle.std.proofs.lemmas.Bool.{ne_eqb}
+use Rattle.std.proofs.lemmas.Bool.{ne_eqb, and_left, and_right}
 use Rattle.std.specs.Str.{bytes_eq}
 use Rattle.class_hierarchy.specs.World.{World}
 use Rattle.world.specs.Instances.{begins}
@@ -30,14 +30,6 @@ and_none : (x y z : Bool) → (x && y) ≡ false → ((x && y) && z) ≡ false
 and_none true true z isnt = absurd cc
 and_none true false z isnt = refl
 and_none false y z isnt = refl
-
-and_left : (x y : Bool) → x ≡ false → (x && y) ≡ false
-and_left true y isnt = absurd cc
-and_left false y isnt = refl
-
-and_right : (x y : Bool) → y ≡ false → (x && y) ≡ false
-and_right true y isnt = isnt
-and_right false y isnt = refl
 
 no_end : (x y z : Bool) → (false || (x && false) || ((y && false) && z)) ≡ false
 no_end true true z = refl

@@ -3,6 +3,7 @@ use Rattle.std.proofs.Common.{◌≡◌, ℕ, zero, suc, ◌+◌, ◌-◌, ◌*�
 use Rattle.std.specs.Prelude.{nat_le, nat_lt, if◌then◌else◌, Result, Ok, Err, find, is_some, not, ◌||◌, cond}
 use Rattle.std.specs.Option.{option_and_then}
 use Rattle.std.proofs.lemmas.Bool.Decides.{nat_tests}
+use Rattle.std.proofs.lemmas.Bool.{and_parts, and_right}
 use Rattle.op_table.specs.declared.acts.Action.{Action}
 use Rattle.op_table.specs.declared.acts.Action.TheVariants.{Outside}
 use Rattle.op_table.specs.declared.construct.Construct.{Construct}
@@ -22,18 +23,6 @@ use Rattle.op_table.specs.Support.{support_of}
 use Rattle.op_table.specs.Actions.{Row, constants, loads, stores, stack, math, conversions, comparisons, control, references, extended, rows_of, done_by, action_in, supported, action_of, increment_of, switch_of}
 
 -- ---- tests
-
-first-true : (a b : Bool) → (a && b) ≡ true → a ≡ true
-first-true true b h = refl
-first-true false b h = absurd (cc)
-
-second-true : (a b : Bool) → (a && b) ≡ true → b ≡ true
-second-true true b h = h
-second-true false b h = absurd (cc)
-
-second-false : (a b : Bool) → b ≡ false → (a && b) ≡ false
-second-false true b h = h
-second-false false b h = refl
 
 abbrev all_below : List Range → Bool
 all_below [] = true
@@ -139,10 +128,10 @@ read-known (Err fault) i is h = absurd (cc)
 found-none : (rows : List Range) (op : ℕ) → all_below rows ≡ true → 202 ≤ op → find (λ r. nat_le r.first op && nat_le op r.last) rows ≡ None
 found-none [] op low above = refl
 found-none (r ∷ rows) op low above =
-    let here : nat_le r.last 201 ≡ true = first-true (nat_le r.last 201) (all_below rows) low in
-    let later : all_below rows ≡ true = second-true (nat_le r.last 201) (all_below rows) low in
+    let here : nat_le r.last 201 ≡ true = (and_parts (nat_le r.last 201) (all_below rows) low).0 in
+    let later : all_below rows ≡ true = (and_parts (nat_le r.last 201) (all_below rows) low).1 in
     let out : nat_le op r.last ≡ false = grind (arith, nat_tests) in
-    let skip : (nat_le r.first op && nat_le op r.last) ≡ false = second-false (nat_le r.first op) (nat_le op r.last) out in
+    let skip : (nat_le r.first op && nat_le op r.last) ≡ false = and_right (nat_le r.first op) (nat_le op r.last) out in
     rw skip (found-none rows op later above)
 
 none-above : (op : ℕ) → 202 ≤ op → layout_of op ≡ None
@@ -184,8 +173,8 @@ all-at : (test : ℕ → Bool) (n k : ℕ) → all_to test n ≡ true → k < n 
 unfolding all_to
 all-at test zero k all below = absurd (omega arith)
 all-at test (suc n) k all below =
-    let here : test n ≡ true = first-true (test n) (all_to test n) all in
-    let rest : all_to test n ≡ true = second-true (test n) (all_to test n) all in
+    let here : test n ≡ true = (and_parts (test n) (all_to test n) all).0 in
+    let rest : all_to test n ≡ true = (and_parts (test n) (all_to test n) all).1 in
     let P : Bool → Type 0 = λ b. nat_lt k n ≡ b → test k ≡ true in
     elim (nat_lt k n) as P [
       | true ↦ λ under. all-at test n k rest (grind (arith, nat_tests))

@@ -2,6 +2,7 @@
 use Rattle.std.proofs.Common.{◌≡◌, ℕ, zero, suc, ◌+◌, ◌-◌, ◌<◌, ◌≤◌, Bool, true, false, List, ◌&&◌, refl, arith, add-one, sub-one, ◌<ℤ◌, ◌≤ℤ◌, subst}
 use Rattle.std.specs.Prelude.{int_lt}
 use Rattle.std.proofs.lemmas.Int.{ints}
+use Rattle.std.proofs.lemmas.Bool.{and_parts}
 use Rattle.op_table.specs.Grammar.{are_rising, value_of}
 
 one-more : (n : ℕ) (pairs : List ℕ) → are_rising (suc n) pairs ≡ true → value_of n pairs <ℤ value_of (suc n) pairs → are_rising (suc (suc n)) pairs ≡ true
@@ -44,14 +45,10 @@ risen-before m n pairs before risen =
       | false ↦ λ h. let fallen : are_rising n pairs ≡ false = later-false (n - m) m pairs h n (omega arith) in absurd (cc)
     ] refl
 
-both-true : (a b : Bool) → (a && b) ≡ true → b ≡ true
-both-true true b h = h
-both-true false b h = absurd (cc)
-
 adjacent : (k n : ℕ) (pairs : List ℕ) → suc k < n → are_rising n pairs ≡ true → value_of k pairs <ℤ value_of (suc k) pairs
 adjacent k n pairs inside risen =
     let here : are_rising (suc (suc k)) pairs ≡ true = risen-before (suc (suc k)) n pairs (omega arith) risen in
-    let test : int_lt (value_of k pairs) (value_of (suc k) pairs) ≡ true = both-true (are_rising (suc k) pairs) _ here in
+    let test : int_lt (value_of k pairs) (value_of (suc k) pairs) ≡ true = (and_parts (are_rising (suc k) pairs) _ here).1 in
     grind (arith, ints)
 
 -- of two values the later one is the greater

@@ -4,6 +4,7 @@ use Rattle.std.specs.Prelude.{find, Result, Ok, Err}
 use Rattle.std.specs.Option.{option_or, option_and_then, ok_or}
 use Rattle.std.specs.List.{list_any}
 use Rattle.std.proofs.lemmas.Grind.{common_steps}
+use Rattle.common_laws.proofs.Tests.{any_each, find_each}
 use Rattle.world.specs.declared.member.MemberId.{MemberId}
 use Rattle.world.specs.declared.fault.ResolveFault.{ResolveFault}
 use Rattle.world.specs.declared.fault.ResolveFault.TheVariants.{MissingMember, Ambiguous}
@@ -40,14 +41,6 @@ by_find f (x ∷ xs) = by_find_head f x xs (f x) refl (by_find f xs)
 
 pub first_same : {A : Type 0} (f : ℕ → Option A) (xs ys : List ℕ) → SameFirst xs ys → first_of f xs ≡ first_of f ys
 first_same f xs ys h = by_find f xs ∙ ap (λ o. option_and_then f o) (h.same (λ x. is_some (f x))) ∙ sym (by_find f ys)
-
-pub any_each : (p q : ℕ → Bool) → ((x : ℕ) → p x ≡ q x) → (xs : List ℕ) → list_any p xs ≡ list_any q xs
-any_each p q h [] = refl
-any_each p q h (x ∷ xs) = rw (h x, any_each p q h xs) refl
-
-find_each : (p q : ℕ → Bool) → ((x : ℕ) → p x ≡ q x) → (xs : List ℕ) → find p xs ≡ find q xs
-find_each p q h [] = refl
-find_each p q h (x ∷ xs) = rw (h x, find_each p q h xs) refl
 
 alone_same : (p q : ℕ → Bool) (xs ys : List ℕ) (answer : ℕ → Option MemberId) (otherwise other : Result MemberId ResolveFault) → ((x : ℕ) → p x ≡ q x) → SameFirst xs ys → otherwise ≡ other → (o : Option ℕ) → alone p xs answer otherwise o ≡ alone q ys answer other o
 alone_same p q xs ys answer otherwise other each h e None = e

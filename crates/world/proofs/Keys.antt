@@ -20,6 +20,7 @@ use Rattle.std.proofs.lemmas.List.FromFn.{length-range_with_len, get_or-range_wi
 use Rattle.std.proofs.lemmas.List.Sorted.{ranks_by, sorted_far, All-permutation, Contains-permutation}
 use Rattle.std.proofs.lemmas.Map.Text.{is_eq-slice_cmp}
 use Rattle.std.proofs.lemmas.Slice.Eq.{bytes_eq-Decides}
+use Rattle.common_laws.proofs.Positions.{position_at, position_nowhere}
 use denote.Param.Members.{Mut}
 use denote.Ref.{Bor}
 use Rattle.world.specs.declared.members.Members.{Members}
@@ -157,28 +158,6 @@ keyed name desc k e =
     let parts = and_parts (bytes_eq k.name name) (bytes_eq k.desc desc) e in
     ap (λ l. record { name = l; desc = k.desc }) ((bytes_eq-Decides k.name name).0 parts.0)
     ∙ ap (λ l. record { name = name; desc = l }) ((bytes_eq-Decides k.desc desc).0 parts.1)
-
--- ---- the place of the first that passes a test
-
-step_by : {A : Type 0} (b : Bool) (p : A → Bool) (x : A) (xs : List A) (i : ℕ) → p x ≡ b → b ≡ false → position p xs ≡ Some i → position p (x ∷ xs) ≡ Some (suc i)
-step_by b p x xs i e f h = grind (arith, common_steps)
-
-pub position_at : {A : Type 0} (p : A → Bool) (xs : List A) (i : ℕ) (d : A) → i < length xs → p (get_or xs i d) ≡ true → ((k : ℕ) → k < i → p (get_or xs k d) ≡ false) → position p xs ≡ Some i
-position_at p [] i d lt here before = absurd (omega arith)
-position_at p (x ∷ xs) zero d lt here before = grind (arith, common_steps)
-position_at p (x ∷ xs) (suc i) d lt here before = step_by (p x) p x xs i refl (before 0 (omega arith)) (position_at p xs i d (omega arith) here (λ k less. before (suc k) (omega arith)))
-
-pub position_nowhere : {A : Type 0} (p : A → Bool) (xs : List A) (d : A) → ((k : ℕ) → k < length xs → p (get_or xs k d) ≡ false) → position p xs ≡ None
-position_nowhere p [] d none = refl
-position_nowhere p (x ∷ xs) d none = let here : p x ≡ false = none 0 (omega arith) in let later : position p xs ≡ None = position_nowhere p xs d (λ k lt. none (suc k) (omega arith)) in grind (arith, common_steps)
-
-map_head : {A B : Type 0} (f : A → B) (p : B → Bool) (x : A) (xs : List A) (b : Bool) → p (f x) ≡ b → position p (map f xs) ≡ position (λ y. p (f y)) xs → position p (f x ∷ map f xs) ≡ position (λ y. p (f y)) (x ∷ xs)
-map_head f p x xs true e h = grind (arith, common_steps)
-map_head f p x xs false e h = grind (arith, common_steps)
-
-pub position_map : {A B : Type 0} (f : A → B) (p : B → Bool) (xs : List A) → position p (map f xs) ≡ position (λ x. p (f x)) xs
-position_map f p [] = refl
-position_map f p (x ∷ xs) = map_head f p x xs (p (f x)) refl (position_map f p xs)
 
 -- ---- places by key
 

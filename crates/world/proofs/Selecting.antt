@@ -1,11 +1,13 @@
 -- What is selected.
-use Rattle.std.proofs.Common.{◌≡◌, inl, inr, ℕ, zero, suc, ◌-◌, ◌<◌, ◌≤◌, Bool, true, false, ◌||◌, ◌&&◌, not, List, [], ◌∷◌, length, drop, take, get_or, Option, Some, None, arith, cond, refl, sym, ap, ◌∙◌, nat_eq, is_some}
+use Rattle.std.proofs.Common.{◌≡◌, inl, inr, ℕ, zero, suc, ◌-◌, ◌<◌, ◌≤◌, Bool, true, false, ◌||◌, ◌&&◌, not, List, [], ◌∷◌, length, drop, take, get_or, Option, Some, None, arith, cond, refl, sym, ap, ◌∙◌, nat_eq, is_some, true≢false}
 use Rattle.std.specs.Prelude.{find, slice_get, Result, Ok, Err}
 use Rattle.std.specs.Option.{option_map, option_and_then, option_map_or}
 use Rattle.std.specs.List.{list_any, position}
 use Rattle.std.specs.Str.{bytes_eq}
-use Rattle.std.proofs.lemmas.Bool.{both_ways, cases_Bool, and_cases, and_left, and_right, and_from, or_parts, or_from, or_left, or_right, not-false, not_from_true}
+use Rattle.std.proofs.lemmas.Bool.{both_ways, cases_Bool, and_cases, and_left, and_right, and_from, or_parts, or_from, or_left, or_right, not-false, not_from_true, and_parts, false_from_ne_true}
 use Rattle.std.proofs.lemmas.Slice.Eq.{bytes_eq-Decides}
+use Rattle.std.proofs.lemmas.List.Folds.{list_any_at}
+use Rattle.common_laws.proofs.Tests.{any_in, any_has, find_some, find_misses}
 use Rattle.class_reader.specs.declared.class.Method.{Method}
 use Rattle.world.specs.declared.member.MemberId.{MemberId}
 use Rattle.world.specs.declared.access.MethodKind.TheVariants as kinds
@@ -17,7 +19,6 @@ use Rattle.world.specs.Resolution.{first_of, member, is_method, of_kind, method_
 use Rattle.world.specs.Selection.{package_of, same_package, meets_package, only_default, inherited}
 use Rattle.class_hierarchy.specs.Tables.{SameFirst}
 use Rattle.world.specs.Tables.{Tells}
-use Rattle.class_hierarchy.proofs.First.{none_head}
 use Rattle.world.proofs.Finding.{tells_self, only_same}
 
 pub default_same : (w : World) (name desc xs ys : List ℕ) → SameFirst xs ys → only_default w name desc xs ≡ only_default w name desc ys
@@ -43,22 +44,13 @@ pub package_none : (xs : List ℕ) → list_any (nat_eq 47) xs ≡ false → pac
 package_none [] h = refl
 package_none (x ∷ xs) h = rw h refl
 
-or_any : (b : Bool) → (b || true) ≡ true
-or_any true = refl
-or_any false = refl
-
-any_at : (p : ℕ → Bool) (xs : List ℕ) (i : ℕ) → i < length xs → p (get_or xs i 0) ≡ true → list_any p xs ≡ true
-any_at p [] i h e = absurd (omega arith)
-any_at p (x ∷ xs) zero h e = rw e refl
-any_at p (x ∷ xs) (suc i) h e = let more : list_any p xs ≡ true = any_at p xs i (omega arith) e in rw more (or_any (p x))
-
 pub package_cut : (xs : List ℕ) (i : ℕ) → i < length xs → get_or xs i 0 ≡ 47 → list_any (nat_eq 47) (drop (suc i) xs) ≡ false → take (suc i) xs ≡ package_of xs
 package_cut [] i h e none = absurd (omega arith)
 package_cut (x ∷ xs) zero h e none =
-    let slash : list_any (nat_eq 47) (x ∷ xs) ≡ true = any_at (nat_eq 47) (x ∷ xs) 0 h (rw e refl) in
+    let slash : list_any (nat_eq 47) (x ∷ xs) ≡ true = list_any_at (nat_eq 47) (x ∷ xs) 0 0 h (rw e refl) in
     rw (slash, package_none xs none) refl
 package_cut (x ∷ xs) (suc i) h e none =
-    let slash : list_any (nat_eq 47) (x ∷ xs) ≡ true = any_at (nat_eq 47) (x ∷ xs) (suc i) h (rw e refl) in
+    let slash : list_any (nat_eq 47) (x ∷ xs) ≡ true = list_any_at (nat_eq 47) (x ∷ xs) (suc i) 0 h (rw e refl) in
     rw slash (ap (λ l. x ∷ l) (package_cut xs i (omega arith) e none))
 
 pub package_here : (xs : List ℕ) (end : ℕ) → 0 < end → end ≤ length xs → get_or xs (end - 1) 0 ≡ 47 → list_any (nat_eq 47) (drop end xs) ≡ false → take end xs ≡ package_of xs
@@ -73,20 +65,13 @@ abbrev pub is_met : (ℕ → Bool) → (ℕ → ℕ → Bool) → List ℕ → �
 is_met declares together among d = list_any (λ e. declares e && not (together d e)) among
 
 none_and : (p q : ℕ → Bool) (xs : List ℕ) → find p xs ≡ None → list_any (λ d. p d && q d) xs ≡ false
-none_and p q [] e = refl
-none_and p q (x ∷ xs) e =
-    let parts = none_head (p x) x (find p xs) e in
-    or_from (p x && q x) (list_any (λ d. p d && q d) xs) (and_left (p x) (q x) parts.0) (none_and p q xs parts.1)
-
-found_head : (b : Bool) (p q : ℕ → Bool) (x d : ℕ) (xs : List ℕ) → p x ≡ b → cond b (Some x) (find p xs) ≡ Some d → q d ≡ true → (find p xs ≡ Some d → list_any (λ c. p c && q c) xs ≡ true) → list_any (λ c. p c && q c) (x ∷ xs) ≡ true
-found_head true p q x d xs h e k more =
-    let same : x ≡ d = cc in
-    or_left (p x && q x) (list_any (λ c. p c && q c) xs) (and_from (p x) (q x) h (ap q same ∙ k))
-found_head false p q x d xs h e k more = or_right (p x && q x) (list_any (λ c. p c && q c) xs) (more e)
+none_and p q xs e = false_from_ne_true (list_any (λ d. p d && q d) xs) (λ h.
+    let at = any_has (λ d. p d && q d) xs h in
+    let passes = and_parts (p at.0) (q at.0) at.2 in
+    true≢false (sym passes.0 ∙ find_misses p xs at.0 e at.1))
 
 found_and : (p q : ℕ → Bool) (d : ℕ) (xs : List ℕ) → find p xs ≡ Some d → q d ≡ true → list_any (λ c. p c && q c) xs ≡ true
-found_and p q d [] e k = absurd cc
-found_and p q d (x ∷ xs) e k = found_head (p x) p q x d xs refl e k (λ h. found_and p q d xs h k)
+found_and p q d xs e k = let at = find_some p xs d e in any_in (λ c. p c && q c) xs d at.0 (and_from (p d) (q d) at.1 k)
 
 -- where d meets none, what declares the method is of its package
 beside : (declares : ℕ → Bool) (together : ℕ → ℕ → Bool) (d x : ℕ) → (declares x && not (together d x)) ≡ false → declares x ≡ true → together d x ≡ true

@@ -10,6 +10,7 @@ use Rattle.std.proofs.lemmas.Bool.{cases_lt, eq-eqb, ne_eqb}
 use Rattle.std.proofs.lemmas.Grind.{get_or_default_zero}
 use Rattle.std.proofs.lemmas.List.Folds.{list_any-append, list_any_at, list_any_none}
 use Rattle.std.proofs.lemmas.List.Sorted.{list_any-IsPermutation, searched}
+use Rattle.common_laws.proofs.Tests.{any_flat, any_filter, filter_twice, find_filter}
 use Rattle.world.specs.declared.member.MemberId.{MemberId}
 use Rattle.world.specs.declared.fault.ResolveFault.{ResolveFault}
 use Rattle.world.specs.declared.fault.ResolveFault.TheVariants.{MissingMember, Ambiguous}
@@ -20,37 +21,6 @@ use Rattle.class_hierarchy.specs.Tables.{SameFirst}
 use Rattle.world.specs.Tables.{Tells}
 use Rattle.class_hierarchy.proofs.First.{any_same}
 use Rattle.world.proofs.Finding.{tells_as}
-
--- ---- lists
-
-any_filter : (p q : ℕ → Bool) (xs : List ℕ) → list_any p (filter q xs) ≡ list_any (λ x. q x && p x) xs
-any_filter p q [] = refl
-any_filter p q (x ∷ xs) =
-    elim (q x) as (λ b. list_any p (cond b (x ∷ filter q xs) (filter q xs)) ≡ ((b && p x) || list_any (λ y. q y && p y) xs)) [
-      | true ↦ ap (λ b. p x || b) (any_filter p q xs)
-      | false ↦ any_filter p q xs
-    ]
-
-any_flat : (p : ℕ → Bool) (f : ℕ → List ℕ) (xs : List ℕ) → list_any p (flat_map f xs) ≡ list_any (λ x. list_any p (f x)) xs
-any_flat p f [] = refl
-any_flat p f (x ∷ xs) = list_any-append p (f x) (flat_map f xs) ∙ ap (λ b. list_any p (f x) || b) (any_flat p f xs)
-
-filter_twice : (p q r : ℕ → Bool) → ((x : ℕ) → r x ≡ (p x && q x)) → (xs : List ℕ) → filter q (filter p xs) ≡ filter r xs
-filter_twice p q r h [] = refl
-filter_twice p q r h (x ∷ xs) =
-    rw (h x)
-    (elim (p x) as (λ b. filter q (cond b (x ∷ filter p xs) (filter p xs)) ≡ cond (b && q x) (x ∷ filter r xs) (filter r xs)) [
-      | true ↦ ap (λ l. cond (q x) (x ∷ l) l) (filter_twice p q r h xs)
-      | false ↦ filter_twice p q r h xs
-    ])
-
-find_filter : (p : ℕ → Bool) (xs : List ℕ) → find p xs ≡ slice_get (filter p xs) 0
-find_filter p [] = refl
-find_filter p (x ∷ xs) =
-    elim (p x) as (λ b. cond b (Some x) (find p xs) ≡ slice_get (cond b (x ∷ filter p xs) (filter p xs)) 0) [
-      | true ↦ refl
-      | false ↦ find_filter p xs
-    ]
 
 -- ---- a search in what rises
 

@@ -3,10 +3,13 @@ use Rattle.std.proofs.Common.{◌≡◌, ◌⊎◌, inl, inr, ℕ, ◌+◌, ◌<
 use Rattle.std.specs.Prelude.{Ok, Err, find, slice_get, if◌then◌else◌}
 use Rattle.std.specs.Option.{option_or, option_map, option_map_or, option_and_then, option_to_list, ok_or}
 use Rattle.std.specs.List.{list_any, flat_map, position}
-use Rattle.std.proofs.lemmas.Bool.{eqb-true, eq-eqb, cases_eq, and_parts}
-use Rattle.std.proofs.lemmas.List.{length-set, get_or-set_same, get_or-set_other, take_more, take_all}
+use Rattle.std.proofs.lemmas.Bool.{eqb-true, eq-eqb, cases_eq, and_parts, or_cases, not-true, false_from_ne_true}
+use Rattle.std.proofs.lemmas.List.{length-set, get_or-set_same, get_or-set_other, take_more, take_all, append-nil}
 use Rattle.std.proofs.lemmas.List.Folds.{list_any-append}
 use Rattle.std.proofs.lemmas.Slice.Eq.{bytes_eq-Decides}
+use Rattle.common_laws.proofs.Choices.{or_none, or_nothing, or_assoc}
+use Rattle.common_laws.proofs.Numbers.{contains_listed, listed_contains, place_listed, head_listed, tail_listed, one_listed, flat_listed, listed_flat}
+use Rattle.common_laws.proofs.Tests.{any_in, any_has, any_left, any_right, any_either, find_none, find_some}
 use Rattle.class_reader.specs.declared.class.Method.{Method}
 use Rattle.class_reader.specs.Flags.{is_static, is_abstract}
 use Rattle.world.specs.declared.member.MemberId.{MemberId}
@@ -25,20 +28,19 @@ use Rattle.class_hierarchy.specs.Orders.{IsSupersFirst}
 use Rattle.world.specs.Resolution.{first_of, member, is_method, of_kind, method_in, alone}
 use Rattle.world.specs.Selection.{method_of, package_of, same_package, meets_package, only_default, inherited, is_package_override}
 use Rattle.world.specs.Standings.{Passes, IsSpread, own, joined, is_several, declares, IsAmong, joined_among, IsChain, joined_chain, blank, standing_at, Stands, HasSupersStand, AreStandings, default_by}
-use Rattle.class_hierarchy.proofs.First.{or_true, none_head, flat_next}
-use Rattle.class_hierarchy.proofs.Exploring.{in_either, in_left, in_right, in_place}
+use Rattle.class_hierarchy.proofs.First.{flat_next}
 use Rattle.class_hierarchy.proofs.WellBuilt.{line_whole, line_on, above_whole, interface_step}
 
 -- ---- classes that pass
 
 passes_left : (p : ℕ → Bool) (xs ys : List ℕ) (d : ℕ) → Passes p xs d → Passes p (xs ++ ys) d
-passes_left p xs ys d h = (in_left d xs ys h.0, h.1)
+passes_left p xs ys d h = (any_left (nat_eq d) xs ys h.0, h.1)
 
 passes_right : (p : ℕ → Bool) (xs ys : List ℕ) (d : ℕ) → Passes p ys d → Passes p (xs ++ ys) d
-passes_right p xs ys d h = (in_right d xs ys h.0, h.1)
+passes_right p xs ys d h = (any_right (nat_eq d) xs ys h.0, h.1)
 
 passes_either : (p : ℕ → Bool) (xs ys : List ℕ) (d : ℕ) → Passes p (xs ++ ys) d → Passes p xs d ⊎ Passes p ys d
-passes_either p xs ys d h = elim (in_either d xs ys h.0) [ inl left ↦ inl (left, h.1) | inr right ↦ inr (right, h.1) ]
+passes_either p xs ys d h = elim (any_either (nat_eq d) xs ys h.0) [ inl left ↦ inl (left, h.1) | inr right ↦ inr (right, h.1) ]
 
 -- likeness of classes
 pub record IsLikeness (alike : ℕ → ℕ → Bool) : Type 0 where
@@ -88,13 +90,9 @@ among_joined w c m xs ys a b h k = record {
   defaults = spread_joined (declares w m kinds.Default) nat_eq xs ys a.defaults b.defaults same_class h.defaults k.defaults;
 }
 
-first_or : {A : Type 0} (o a b : Option A) → option_or o (option_or a b) ≡ option_or (option_or o a) b
-first_or None a b = refl
-first_or (Some x) a b = refl
-
 first_append : {A : Type 0} (f : ℕ → Option A) (xs ys : List ℕ) → first_of f (xs ++ ys) ≡ option_or (first_of f xs) (first_of f ys)
 first_append f [] ys = refl
-first_append f (x ∷ xs) ys = ap (λ o. option_or (f x) o) (first_append f xs ys) ∙ first_or (f x) (first_of f xs) (first_of f ys)
+first_append f (x ∷ xs) ys = ap (λ o. option_or (f x) o) (first_append f xs ys) ∙ or_assoc (f x) (first_of f xs) (first_of f ys)
 
 pub chain_joined : (w : World) (m : MemberId) (xs ys : List ℕ) (a b : Chain) → IsChain w m xs a → IsChain w m ys b → IsChain w m (xs ++ ys) (joined_chain w a b)
 chain_joined w m xs ys a b h k =
@@ -107,15 +105,12 @@ chain_joined w m xs ys a b h k =
 
 -- ---- a class alone
 
-at_one : (d r : ℕ) → list_any (nat_eq d) (r ∷ []) ≡ true → d ≡ r
-at_one d r h = elim (or_true (nat_eq d r) false h) [ inl e ↦ eqb-true d r e | inr e ↦ absurd cc ]
-
 spread_own : (p : ℕ → Bool) (alike : ℕ → ℕ → Bool) (r : ℕ) (b : Bool) → IsLikeness alike → p r ≡ b → IsSpread p alike (r ∷ []) (own b r)
 spread_own p alike r true like e = (
-  (in_left r (r ∷ []) [] (rw (eq-eqb r r refl) refl), e),
-  λ d h. subst (λ x. alike r x ≡ true) (sym (at_one d r h.0)) (like.itself r),
+  (head_listed r [], e),
+  λ d h. subst (λ x. alike r x ≡ true) (sym (one_listed d r h.0)) (like.itself r),
 )
-spread_own p alike r false like e = λ d h. true≢false (sym h.1 ∙ ap p (at_one d r h.0) ∙ e)
+spread_own p alike r false like e = λ d h. true≢false (sym h.1 ∙ ap p (one_listed d r h.0) ∙ e)
 
 or_last : (b : Bool) → b ≡ (b || false)
 or_last true = refl
@@ -128,13 +123,9 @@ among_own w c m r named declaring defaults e f g = record {
   defaults = rw g (spread_own (declares w m kinds.Default) nat_eq r (declares w m kinds.Default r) same_class refl);
 }
 
-or_none : {A : Type 0} (o : Option A) → o ≡ option_or o None
-or_none None = refl
-or_none (Some x) = refl
-
 pub chain_own : (w : World) (m : MemberId) (r : ℕ) (first : Option MemberId) (packaged : Bool) (packages : Spread) → first ≡ method_in w (method_of w m).name (method_of w m).desc kinds.Inherited r → packaged ≡ declares w m kinds.Package r → packages ≡ own (declares w m kinds.Any r) r → IsChain w m (r ∷ []) (record { inherited = first; is_packaged = packaged; packages = packages })
 chain_own w m r first packaged packages e f g = record {
-  inherited = e ∙ or_none (method_in w (method_of w m).name (method_of w m).desc kinds.Inherited r);
+  inherited = e ∙ sym (or_nothing (method_in w (method_of w m).name (method_of w m).desc kinds.Inherited r));
   packaged = f ∙ or_last (declares w m kinds.Package r);
   packages = rw g (spread_own (declares w m kinds.Any) (same_package w) r (declares w m kinds.Any r) (same_packages w) refl);
 }
@@ -147,12 +138,12 @@ with_above w i = i ∷ above w i
 -- of the i-th interface that the class names
 pub interface_stands : (w : World) (c : ℕ) (m : MemberId) (r : ℕ) (xs : List ℕ) (i : ℕ) (standings : List Standing) → xs ≡ interfaces w r → i < length xs → HasSupersStand w c m standings r → Stands w c m (get_or xs i 0) (standing_at standings (get_or xs i 0))
 interface_stands w c m r xs i standings e lt h =
-    h (get_or xs i 0) (interface_step w r (get_or xs i 0) (subst (λ l. list_any (nat_eq (get_or xs i 0)) l ≡ true) e (in_place xs i lt)))
+    h (get_or xs i 0) (interface_step w r (get_or xs i 0) (subst (λ l. list_any (nat_eq (get_or xs i 0)) l ≡ true) e (place_listed xs i 0 lt)))
 
 -- of the superclass
 pub super_stands : (w : World) (c : ℕ) (m : MemberId) (r s : ℕ) (standings : List Standing) → superclass w r ≡ Some s → HasSupersStand w c m standings r → Stands w c m s (standing_at standings s)
 unfolding supers
-super_stands w c m r s standings e h = h s (in_left s (option_to_list (superclass w r)) (interfaces w r) (rw (e, eq-eqb s s refl) refl))
+super_stands w c m r s standings e h = h s (any_left (nat_eq s) (option_to_list (superclass w r)) (interfaces w r) (rw (e, eq-eqb s s refl) refl))
 
 pub near_next : (w : World) (c : ℕ) (m : MemberId) (r : ℕ) (xs : List ℕ) (i : ℕ) (near : Among) (up : Standing) → i < length xs → IsAmong w c m (r ∷ flat_map (with_above w) (take i xs)) near → Stands w c m (get_or xs i 0) up → IsAmong w c m (r ∷ flat_map (with_above w) (take (i + 1) xs)) (joined_among near up.near)
 near_next w c m r xs i near up lt h k =
@@ -177,10 +168,6 @@ ancestors_are : (w : World) (s : ℕ) → ancestors w s ≡ flat_map (with_above
 unfolding ancestors
 ancestors_are w s = refl
 
-nil_last : (xs : List ℕ) → xs ++ [] ≡ xs
-nil_last [] = refl
-nil_last (x ∷ xs) = ap (λ l. x ∷ l) (nil_last xs)
-
 pub stands_some : (w : World) (c : ℕ) (m : MemberId) (r s : ℕ) (near : Among) (chain : Chain) (up : Standing) → IsWellBuilt w → r < length w → superclass w r ≡ Some s → IsAmong w c m (r ∷ above w r) near → IsChain w m (r ∷ []) chain → Stands w c m s up → Stands w c m r (record { near = near; all = joined_among near up.all; chain = joined_chain w chain up.chain })
 stands_some w c m r s near chain up built lt e h k u =
     let on = line_some w r s built lt e in
@@ -195,7 +182,7 @@ stands_none w c m r near chain built lt e h k =
     let on = line_none w r built lt e in
     record {
       near = h;
-      all = subst (λ l. IsAmong w c m l near) (sym (nil_last (r ∷ above w r)) ∙ sym (ancestors_by w r [] on)) h;
+      all = subst (λ l. IsAmong w c m l near) (sym (append-nil (r ∷ above w r)) ∙ sym (ancestors_by w r [] on)) h;
       chain = subst (λ l. IsChain w m l chain) (sym on) k;
     }
 
@@ -225,9 +212,9 @@ stand_next w c m order i standings standing first lt h now =
     record {
       count = length-set standings (get_or order i 0) standing ∙ h.count;
       done = λ d e. stand_at w c m standings (get_or order i 0) d standing (rw h.count (first.within i lt)) now
-          (elim (in_either d (take i order) (get_or order i 0 ∷ []) (subst (λ l. list_any (nat_eq d) l ≡ true) more e)) [
+          (elim (any_either (nat_eq d) (take i order) (get_or order i 0 ∷ []) (subst (λ l. list_any (nat_eq d) l ≡ true) more e)) [
             | inl before ↦ inr (h.done d before)
-            | inr last ↦ inl (at_one d (get_or order i 0) last)
+            | inr last ↦ inl (one_listed d (get_or order i 0) last)
           ]);
     }
 
@@ -239,49 +226,17 @@ stand_end w c m order n standings first le h = record {
 
 -- ---- what passes
 
-or_right : (a b : Bool) → b ≡ true → (a || b) ≡ true
-or_right true b h = refl
-or_right false b h = h
-
 passing : (p : ℕ → Bool) (xs : List ℕ) (d : ℕ) → Passes p xs d → list_any p xs ≡ true
-passing p [] d h = h.0
-passing p (x ∷ xs) d h = elim (or_true (nat_eq d x) (list_any (nat_eq d) xs) h.0) [
-  | inl here ↦ let e : p x ≡ true = ap p (sym (eqb-true d x here)) ∙ h.1 in rw e refl
-  | inr later ↦ or_right (p x) (list_any p xs) (passing p xs d (later, h.1))
-]
-
-head_in : (x : ℕ) (xs : List ℕ) → list_any (nat_eq x) (x ∷ xs) ≡ true
-head_in x xs = rw (eq-eqb x x refl) refl
+passing p xs d h = any_in p xs d (listed_contains d xs h.0) h.1
 
 passer : (p : ℕ → Bool) (xs : List ℕ) → list_any p xs ≡ true → (d : ℕ) × Passes p xs d
-passer p [] h = absurd cc
-passer p (x ∷ xs) h = elim (or_true (p x) (list_any p xs) h) [
-  | inl here ↦ (x, (head_in x xs, here))
-  | inr later ↦ let k = passer p xs later in (k.0, (in_right k.0 (x ∷ []) xs k.1.0, k.1.1))
-]
-
-found_at : (p : ℕ → Bool) (x : ℕ) (xs : List ℕ) (d : ℕ) (b : Bool) → p x ≡ b → cond b (Some x) (find p xs) ≡ Some d → (find p xs ≡ Some d → Passes p xs d) → Passes p (x ∷ xs) d
-found_at p x xs d true e h k = let same : x ≡ d = cc in subst (λ y. Passes p (x ∷ xs) y) same (head_in x xs, e)
-found_at p x xs d false e h k = let t = k h in (in_right d (x ∷ []) xs t.0, t.1)
+passer p xs h = let at = any_has p xs h in (at.0, (contains_listed at.0 xs at.1, at.2))
 
 found : (p : ℕ → Bool) (xs : List ℕ) (d : ℕ) → find p xs ≡ Some d → Passes p xs d
-found p [] d e = absurd cc
-found p (x ∷ xs) d e = found_at p x xs d (p x) refl e (found p xs d)
-
-missed : (p : ℕ → Bool) (xs : List ℕ) → find p xs ≡ None → list_any p xs ≡ false
-missed p [] h = refl
-missed p (x ∷ xs) h = let parts = none_head (p x) x (find p xs) h in rw parts.0 (missed p xs parts.1)
-
-never : (b : Bool) → (b ≡ true → ⊥) → b ≡ false
-never true f = absurd (f refl)
-never false f = refl
+found p xs d e = let at = find_some p xs d e in (contains_listed d xs at.0, at.1)
 
 and_not : (a b : Bool) → a ≡ true → b ≡ false → (a && not b) ≡ true
 and_not a b e f = rw (e, f) refl
-
-not_false : (b : Bool) → not b ≡ true → b ≡ false
-not_false true h = absurd cc
-not_false false h = refl
 
 -- one of two that aren't alike isn't like a third
 not_both : (alike : ℕ → ℕ → Bool) (x d e : ℕ) (a b : Bool) → IsLikeness alike → alike d e ≡ false → alike x d ≡ a → alike x e ≡ b → (alike x d ≡ false) ⊎ (alike x e ≡ false)
@@ -302,20 +257,20 @@ has_other p alike xs x like h = elim (apart_one alike x h.0 h.1 like h.4) [
 -- ---- the only default method
 
 no_other : (p : ℕ → Bool) (xs : List ℕ) (x d : ℕ) → d ≡ x → IsSpread p nat_eq xs (One d) → list_any (λ y. p y && not (nat_eq x y)) xs ≡ false
-no_other p xs x d same h = never (list_any (λ y. p y && not (nat_eq x y)) xs) (λ t.
+no_other p xs x d same h = false_from_ne_true (list_any (λ y. p y && not (nat_eq x y)) xs) (λ t.
     let k = passer (λ y. p y && not (nat_eq x y)) xs t in
     let parts = and_parts (p k.0) (not (nat_eq x k.0)) k.1.1 in
     let alike : nat_eq x k.0 ≡ true = subst (λ y. nat_eq y k.0 ≡ true) same (h.1 k.0 (k.1.0, parts.0)) in
-    true≢false (sym alike ∙ not_false (nat_eq x k.0) parts.1))
+    true≢false (sym alike ∙ not-true (nat_eq x k.0) parts.1))
 
 only_at : (p : ℕ → Bool) (xs : List ℕ) (answer : ℕ → Option MemberId) (s : Spread) (o : Option ℕ) → find p xs ≡ o → IsSpread p nat_eq xs s → alone p xs answer (Err MissingMember) o ≡ default_by s answer
 only_at p xs answer Empty None e h = refl
 only_at p xs answer Empty (Some x) e h = absurd (h x (found p xs x e))
-only_at p xs answer (One d) None e h = absurd (true≢false (sym (passing p xs d h.0) ∙ missed p xs e))
+only_at p xs answer (One d) None e h = absurd (true≢false (sym (passing p xs d h.0) ∙ find_none p xs e))
 only_at p xs answer (One d) (Some x) e h =
     let same : d ≡ x = eqb-true d x (h.1 x (found p xs x e)) in
     rw (no_other p xs x d same h) (ap (λ y. ok_or (answer y) MissingMember) (sym same))
-only_at p xs answer Several None e h = absurd (true≢false (sym (passing p xs h.0 h.2) ∙ missed p xs e))
+only_at p xs answer Several None e h = absurd (true≢false (sym (passing p xs h.0 h.2) ∙ find_none p xs e))
 only_at p xs answer Several (Some x) e h = rw (has_other p nat_eq xs x same_class h) refl
 
 spread_moved : (p : ℕ → Bool) (alike : ℕ → ℕ → Bool) (xs ys : List ℕ) → ((d : ℕ) → Passes p xs d → Passes p ys d) → ((d : ℕ) → Passes p ys d → Passes p xs d) → (s : Spread) → IsSpread p alike xs s → IsSpread p alike ys s
@@ -324,34 +279,21 @@ spread_moved p alike xs ys into back (One d) h = (into d h.0, λ e k. h.1 e (bac
 spread_moved p alike xs ys into back Several h = (h.0, h.1, into h.0 h.2, into h.1 h.3, h.4)
 
 in_more : (f : ℕ → List ℕ) (xs : List ℕ) (d : ℕ) → list_any (nat_eq d) (flat_map f xs) ≡ true → list_any (nat_eq d) (flat_map (λ x. x ∷ f x) xs) ≡ true
-in_more f [] d h = h
-in_more f (x ∷ xs) d h = elim (in_either d (f x) (flat_map f xs) h) [
-  | inl left ↦ in_left d (x ∷ f x) (flat_map (λ y. y ∷ f y) xs) (in_right d (x ∷ []) (f x) left)
-  | inr right ↦ in_right d (x ∷ f x) (flat_map (λ y. y ∷ f y) xs) (in_more f xs d right)
-]
+in_more f xs d h = let p = listed_flat d f xs h in flat_listed d (λ x. x ∷ f x) xs p.0 p.1 (tail_listed d p.0 (f p.0) p.2)
 
 in_less : (f : ℕ → List ℕ) (xs : List ℕ) (d : ℕ) → list_any (nat_eq d) (flat_map (λ x. x ∷ f x) xs) ≡ true → (list_any (nat_eq d) xs ≡ true) ⊎ (list_any (nat_eq d) (flat_map f xs) ≡ true)
-in_less f [] d h = inl h
-in_less f (x ∷ xs) d h = elim (in_either d (x ∷ f x) (flat_map (λ y. y ∷ f y) xs) h) [
-  | inl left ↦ elim (or_true (nat_eq d x) (list_any (nat_eq d) (f x)) left) [
-    | inl here ↦ inl (rw here refl)
-    | inr above ↦ inr (in_left d (f x) (flat_map f xs) above)
-  ]
-  | inr right ↦ elim (in_less f xs d right) [
-    | inl there ↦ inl (in_right d (x ∷ []) xs there)
-    | inr above ↦ inr (in_right d (f x) (flat_map f xs) above)
-  ]
-]
-
-or_parts : {A : Type 0} (a b : Option A) → option_or a b ≡ None → (a ≡ None) × (b ≡ None)
-or_parts None b h = (refl, h)
-or_parts (Some x) b h = absurd cc
+in_less f xs d h =
+    let p = listed_flat d (λ x. x ∷ f x) xs h in
+    elim (or_cases (nat_eq d p.0) (list_any (nat_eq d) (f p.0)) p.2) [
+      | inl here ↦ inl (subst (λ x. list_any (nat_eq x) xs ≡ true) (sym (eqb-true d p.0 here)) p.1)
+      | inr above ↦ inr (flat_listed d f xs p.0 p.1 above)
+    ]
 
 none_each : {A : Type 0} (f : ℕ → Option A) (xs : List ℕ) (d : ℕ) → first_of f xs ≡ None → list_any (nat_eq d) xs ≡ true → f d ≡ None
 none_each f [] d e h = absurd cc
 none_each f (x ∷ xs) d e h =
-    let parts = or_parts (f x) (first_of f xs) e in
-    elim (or_true (nat_eq d x) (list_any (nat_eq d) xs) h) [
+    let parts = or_none (f x) (first_of f xs) e in
+    elim (or_cases (nat_eq d x) (list_any (nat_eq d) xs) h) [
       | inl here ↦ ap f (eqb-true d x here) ∙ parts.0
       | inr later ↦ none_each f xs d parts.1 later
     ]
@@ -442,13 +384,13 @@ two_of p q alike xs t =
     let parts = and_parts (p k.0) (list_any (λ e. q e && not (alike k.0 e)) xs) k.1.1 in
     let j = passer (λ e. q e && not (alike k.0 e)) xs parts.1 in
     let rest = and_parts (q j.0) (not (alike k.0 j.0)) j.1.1 in
-    (k.0, j.0, (k.1.0, parts.0), (j.1.0, rest.0), not_false (alike k.0 j.0) rest.1)
+    (k.0, j.0, (k.1.0, parts.0), (j.1.0, rest.0), not-true (alike k.0 j.0) rest.1)
 
 clash_by : (p q : ℕ → Bool) (alike : ℕ → ℕ → Bool) (xs : List ℕ) (s : Spread) → IsLikeness alike → ((d : ℕ) → p d ≡ true → q d ≡ true) → IsSpread q alike xs s → clash p q alike xs ≡ (list_any p xs && is_several s)
 clash_by p q alike xs Empty like sub h =
-    never (clash p q alike xs) (λ t. let two = two_of p q alike xs t in h two.1 two.3) ∙ and_none (list_any p xs)
+    false_from_ne_true (clash p q alike xs) (λ t. let two = two_of p q alike xs t in h two.1 two.3) ∙ and_none (list_any p xs)
 clash_by p q alike xs (One d) like sub h =
-    never (clash p q alike xs) (λ t.
+    false_from_ne_true (clash p q alike xs) (λ t.
     let two = two_of p q alike xs t in
     let same = like.on two.0 d two.1 (like.back d two.0 (h.1 two.0 (two.2.0, sub two.0 two.2.1))) (h.1 two.1 two.3) in
     true≢false (sym same ∙ two.4))

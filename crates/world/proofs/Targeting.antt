@@ -12,8 +12,9 @@ use Rattle.std.specs.BTreeMap.{insert_entry}
 use Rattle.std.proofs.lemmas.Bool.{ltb-true, ltb-false, cases_lt}
 use Rattle.std.proofs.lemmas.Cmp.{nat_list_cmp_total}
 use Rattle.std.proofs.lemmas.List.Kept.{AllPairs-cons}
-use Rattle.std.proofs.lemmas.List.Elements.{Contains-get_or}
+use Rattle.std.proofs.lemmas.List.Elements.{Contains-get_or, All-contains}
 use Rattle.std.proofs.lemmas.Map.Lookups.{exact_bytes}
+use Rattle.common_laws.proofs.Members.{contains_head, contains_tail, contains_cases}
 use Rattle.world.specs.declared.member.MemberId.{MemberId}
 use Rattle.world.specs.declared.fault.ResolveFault.{ResolveFault}
 use Rattle.class_hierarchy.specs.World.{World, class_at}
@@ -23,24 +24,6 @@ use Rattle.world.specs.Targets.{is_receiver, rank, IsBefore, AreTargets, IsFirst
 use Rattle.world.specs.Collecting.{GivesBelow, name_order, with_target, AreNamed, first_kind, IsFirstBelow, Collects}
 use Rattle.class_hierarchy.proofs.OwnNames.{HasNames}
 use Rattle.world.proofs.There.{selected_there, selected_same}
-
--- ---- elements
-
-cases_at : (x : MemberId) (xs : List MemberId) (u : MemberId) (k : ℕ) → k < length (x ∷ xs) → get_or (x ∷ xs) k u ≡ u → (x ≡ u) ⊎ Contains xs u
-cases_at x xs u zero lt e = inl e
-cases_at x xs u (suc k) lt e = inr (k, omega arith, e)
-
-contains_cases : (x : MemberId) (xs : List MemberId) (u : MemberId) → Contains (x ∷ xs) u → (x ≡ u) ⊎ Contains xs u
-contains_cases x xs u h = cases_at x xs u h.0 h.1 h.2
-
-contains_head : (x : MemberId) (xs : List MemberId) → Contains (x ∷ xs) x
-contains_head x xs = (0, omega arith, refl)
-
-contains_tail : (x : MemberId) (xs : List MemberId) (u : MemberId) → Contains xs u → Contains (x ∷ xs) u
-contains_tail x xs u h = (suc h.0, omega (arith, h.1), h.2)
-
-all_by : (P : MemberId → Type 0) (xs : List MemberId) (u : MemberId) → ((k : ℕ) (d : MemberId) → k < length xs → P (get_or xs k d)) → Contains xs u → P u
-all_by P xs u h c = subst P c.2 (h c.0 u c.1)
 
 -- ---- with one target more
 
@@ -90,7 +73,7 @@ it_with w t (s ∷ ss) = it_at w t s ss (name_order w t s) (it_with w t ss)
 before_all : (w : World) (s t : MemberId) (ss : List MemberId) → IsBefore w s t → ((k : ℕ) (d : MemberId) → k < length ss → IsBefore w s (get_or ss k d)) → (u : MemberId) → Contains (with_target w t ss) u → IsBefore w s u
 before_all w s t ss b h u c = elim (from_with w t ss u c) [
   | inl e ↦ subst (λ x. IsBefore w s x) (sym e) b
-  | inr d ↦ all_by (λ x. IsBefore w s x) ss u h d
+  | inr d ↦ All-contains (λ x. IsBefore w s x) ss u h d
 ]
 
 above_it : (w : World) (t s : MemberId) (ss : List MemberId) → IsBefore w t s → ((k : ℕ) (d : MemberId) → k < length ss → IsBefore w s (get_or ss k d)) → (k : ℕ) (d : MemberId) → k < length (s ∷ ss) → IsBefore w t (get_or (s ∷ ss) k d)

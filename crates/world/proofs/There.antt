@@ -6,6 +6,8 @@ use Rattle.std.specs.Prelude.{slice_get}
 use Rattle.std.specs.List.{list_any, position}
 use Rattle.std.proofs.lemmas.Bool.{eq-eqb}
 use Rattle.std.proofs.lemmas.List.Quantifiers.{position-Some}
+use Rattle.common_laws.proofs.Numbers.{contains_listed, head_listed, tail_listed}
+use Rattle.common_laws.proofs.Tests.{find_some}
 use Rattle.class_reader.specs.declared.class.Field.{Field}
 use Rattle.class_reader.specs.declared.class.Method.{Method}
 use Rattle.world.specs.declared.member.MemberId.{MemberId}
@@ -18,17 +20,13 @@ use Rattle.class_hierarchy.specs.World.{World, constructor, class_at, line, abov
 use Rattle.world.specs.Resolution.{first_of, member, is_field, field_in, field_from, is_method, of_kind, method_in, alone, only, interface_method, or_interface, method_from, has_default, is_most_specific}
 use Rattle.world.specs.Selection.{method_of, only_default, inherited, is_package_override, allowed, chosen, selected_by}
 use Rattle.world.specs.Tables.{HasField, HasMethod}
-use Rattle.class_hierarchy.proofs.Inside.{AreClasses, head_in, tail_in, more_below, flat_below, above_below, line_inside, superinterfaces_inside}
+use Rattle.class_hierarchy.proofs.Inside.{AreClasses, more_below, flat_below, above_below, line_inside, superinterfaces_inside}
 
 -- ---- heads of lists
 
 first_head : {A : Type 0} (f : ℕ → Option A) (x : ℕ) (xs : List ℕ) (m : A) (o : Option A) → f x ≡ o → option_or o (first_of f xs) ≡ Some m → (first_of f xs ≡ Some m → (y : ℕ) × (list_any (nat_eq y) xs ≡ true) × (f y ≡ Some m)) → (y : ℕ) × (list_any (nat_eq y) (x ∷ xs) ≡ true) × (f y ≡ Some m)
-first_head f x xs m None g e h = let p = h e in (p.0, tail_in p.0 x xs p.1, p.2)
-first_head f x xs m (Some y) g e h = (x, head_in x xs, g ∙ e)
-
-find_head_in : (b : Bool) (d x : ℕ) (xs : List ℕ) (o : Option ℕ) → cond b (Some x) o ≡ Some d → (o ≡ Some d → list_any (nat_eq d) xs ≡ true) → list_any (nat_eq d) (x ∷ xs) ≡ true
-find_head_in true d x xs o e h = let same : x ≡ d = cc in rw (eq-eqb d x (sym same)) refl
-find_head_in false d x xs o e h = tail_in d x xs (h e)
+first_head f x xs m None g e h = let p = h e in (p.0, tail_listed p.0 x xs p.1, p.2)
+first_head f x xs m (Some y) g e h = (x, head_listed x xs, g ∙ e)
 
 kind_test : (b : Bool) (place i : ℕ) → (if b then Some place else None) ≡ Some i → i ≡ place
 kind_test true place i e = cc
@@ -39,10 +37,6 @@ kind_test false place i e = absurd cc
 first_in : {A : Type 0} (f : ℕ → Option A) (xs : List ℕ) (m : A) → first_of f xs ≡ Some m → (x : ℕ) × (list_any (nat_eq x) xs ≡ true) × (f x ≡ Some m)
 first_in f [] m e = absurd cc
 first_in f (x ∷ xs) m e = first_head f x xs m (f x) refl e (first_in f xs m)
-
-find_in : (p : ℕ → Bool) (xs : List ℕ) (d : ℕ) → find p xs ≡ Some d → list_any (nat_eq d) xs ≡ true
-find_in p [] d e = absurd cc
-find_in p (x ∷ xs) d e = find_head_in (p x) d x xs (find p xs) e (find_in p xs d)
 
 -- ---- methods
 
@@ -88,7 +82,7 @@ alone_there P w p xs answer otherwise m (Some d) b h k e = chosen_there P (list_
 
 only_there : (w : World) (name desc : List ℕ) (kind : MethodKind) (p : ℕ → Bool) (xs : List ℕ) (otherwise : Result MemberId ResolveFault) (m : MemberId) → AreClasses w xs → (otherwise ≡ Ok m → IsPlaced w name desc m) → only p xs (method_in w name desc kind) otherwise ≡ Ok m → IsPlaced w name desc m
 only_there w name desc kind p xs otherwise m h k e =
-    alone_there (IsPlaced w name desc) w p xs (method_in w name desc kind) otherwise m (find p xs) (λ d f. h d (find_in p xs d f)) (λ d b x f. method_there w name desc kind d x b f) k e
+    alone_there (IsPlaced w name desc) w p xs (method_in w name desc kind) otherwise m (find p xs) (λ d f. h d (contains_listed d xs (find_some p xs d f).0)) (λ d b x f. method_there w name desc kind d x b f) k e
 
 interface_there : (w : World) (name desc xs : List ℕ) (m : MemberId) → AreClasses w xs → interface_method w name desc xs ≡ Ok m → IsPlaced w name desc m
 unfolding interface_method

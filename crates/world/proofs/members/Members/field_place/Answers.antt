@@ -1,6 +1,6 @@
 use Rattle.std.proofs.Common.{◌∙◌}
+use Rattle.common_laws.proofs.Positions.{position_map}
 use Rattle.world.specs.Members.{field_key, is_keyed}
-use Rattle.world.proofs.Keys.{position_map}
 use Rattle.world.proofs.members.Members.field_place.Goals as goal
 
 pub returns-clause-place : goal.returns-clause-place

@@ -2,3 +2,4 @@ pub mod Agendas
 pub mod Tables
 pub mod Points
 pub mod Steps
+pub mod Gathering

@@ -11,6 +11,8 @@ use Rattle.fix_engine.specs.Order.{Order, Below}
 use Rattle.fix_engine.specs.Problem.{Problem}
 use Rattle.fix_engine.specs.Lawful.{IsLawful, IsChain}
 use Rattle.fix_engine.specs.Solution.{IsSolution, at_points, carried}
+use Rattle.fix_engine.specs.Derived.{IsDerived}
+use Rattle.fix_engine.specs.Derived.IsDerived.{start, joins}
 use Rattle.fix_engine.specs.Readers.{AreReaders, readers_of, reads, facts_read}
 use Rattle.fix_engine.specs.Search.{IsRising, IsOnTheWay, IsMet, MetOrWaits, visits_left}
 use Rattle.fix_engine.proofs.Points.{at_points-at, at_points-read, at_points-set_same, at_points-set_other, option_map-same, also_cases, carried_fact, carried_below}
@@ -63,6 +65,7 @@ module _ {Fact : Type 0} (order : Order Fact) (p : Problem Fact) (law : IsLawful
         count = e;
         room_count = r;
         are_facts = λ k l. subst (p.IsFact k) (sym (at_start k l)) (law.start k l);
+        derived = λ k l. subst (IsDerived order p k) (sym (at_start k l)) (start k l);
         starts = λ k l. subst (Below order (p.start k)) (sym (at_start k l)) ((law.ordered k l).reflexive _ (law.start k l));
         below = λ t s k l. subst (λ (x : Fact). Below order x (t k)) (sym (at_start k l)) (s.starts k l);
         rising = λ k l. subst (λ (x : Fact). IsRising order (p.IsFact k) p.height x (get_or rooms k 0)) (sym (at_start k l)) (record { before = []; chain = law.start k l; enough = full k l });
@@ -99,6 +102,10 @@ module _ {Fact : Type 0} (order : Order Fact) (p : Problem Fact) (law : IsLawful
     module _ (rows : List (List ℕ)) (readers : AreReaders p p.edges rows) (joined : Fact) (is : joined ≡ order.join (at_points p facts (p.goal e)) (carried p (at_points p facts) e)) where
       join_fact : p.IsFact (p.goal e) joined
       join_fact = subst (p.IsFact (p.goal e)) (sym is) ((law.joined (p.goal e) g_in).closed _ _ old_fact made_fact)
+
+      derived_here : IsDerived order p (p.goal e) joined
+      derived_here =
+          subst (IsDerived order p (p.goal e)) (sym is) (joins e (at_points p facts) (at_points p facts (p.goal e)) l (way.derived _ (law.source e l)) (λ q h. way.derived q (law.also e q l h)) (way.derived _ g_in))
 
       old_below : Below order (at_points p facts (p.goal e)) joined
       old_below = subst (Below order (at_points p facts (p.goal e))) (sym is) ((law.joined (p.goal e) g_in).left _ _ old_fact made_fact)
@@ -154,6 +161,7 @@ module _ {Fact : Type 0} (order : Order Fact) (p : Problem Fact) (law : IsLawful
                 count = length-set facts (p.goal e) joined ∙ way.count;
                 room_count = length-set rooms (p.goal e) room ∙ way.room_count;
                 are_facts = by_point p.IsFact join_fact way.are_facts;
+                derived = by_point (IsDerived order p) derived_here way.derived;
                 starts = by_point (λ k x. Below order (p.start k) x) ((law.ordered (p.goal e) g_in).transitive _ _ _ (law.start _ g_in) old_fact join_fact (way.starts _ g_in) old_below) way.starts;
                 below = λ t s. by_point (λ k x. Below order x (t k)) (below_all t s) (way.below t s);
                 rising = rising_at;

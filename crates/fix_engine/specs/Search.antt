@@ -3,6 +3,7 @@ use Rattle.fix_engine.specs.Order.{Order, Below}
 use Rattle.fix_engine.specs.Problem.{Problem}
 use Rattle.fix_engine.specs.Lawful.{IsChain}
 use Rattle.fix_engine.specs.Solution.{IsSolution, at_points, carried}
+use Rattle.fix_engine.specs.Derived.{IsDerived}
 
 -- a rising chain at a point that ends in this fact and can still rise so often at most
 pub record IsRising {Fact : Type 0} (order : Order Fact) (P : Fact → Type 0) (height : ℕ) (fact : Fact) (room : ℕ) : Type 0 where
@@ -10,12 +11,13 @@ pub record IsRising {Fact : Type 0} (order : Order Fact) (P : Fact → Type 0) (
   pub chain : IsChain order P (fact ∷ before)
   pub enough : height ≤ length (fact ∷ before) + room
 
--- Facts on the way to the least solution: each is a fact of its point, between the start there and
--- every solution, and came by a rising chain.
+-- Facts on the way to the least solution: each is a fact of its point, derived, between the start
+-- there and every solution, and came by a rising chain.
 pub record IsOnTheWay {Fact : Type 0} (order : Order Fact) (p : Problem Fact) (facts : List Fact) (rooms : List ℕ) : Type 0 where
   pub count : length facts ≡ p.points
   pub room_count : length rooms ≡ p.points
   pub are_facts : (k : ℕ) → k < p.points → p.IsFact k (at_points p facts k)
+  pub derived : (k : ℕ) → k < p.points → IsDerived order p k (at_points p facts k)
   pub starts : (k : ℕ) → k < p.points → Below order (p.start k) (at_points p facts k)
   pub below : (t : ℕ → Fact) → IsSolution order p t → (k : ℕ) → k < p.points → Below order (at_points p facts k) (t k)
   pub rising : (k : ℕ) → k < p.points → IsRising order (p.IsFact k) p.height (at_points p facts k) (slice_index rooms k)

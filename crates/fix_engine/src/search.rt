@@ -2,6 +2,7 @@ ghost use Rattle.std.specs.Prelude.{◌≡◌, ℕ, ◌+◌, ◌*◌, ◌<◌, �
 ghost use Rattle.std.specs.Option.{option_copied};
 ghost use Rattle.fix_engine.specs.Readers.{AreReaders, reads};
 ghost use Rattle.fix_engine.specs.Solution.{at_points, carried, IsLeast};
+ghost use Rattle.fix_engine.specs.Derived.{IsDerived};
 ghost use Rattle.fix_engine.specs.Search.{IsOnTheWay, MetOrWaits, visits_left};
 
 use crate::agenda::Agenda;
@@ -121,11 +122,14 @@ fn visit<F: Flow>(
     Ok(())
 }
 
-/// The least solution of a flow. `Err` is want of memory.
+/// The least solution of a flow, each of whose facts is derived. `Err` is want of memory.
 pub fn solve<F: Flow>(alloc: Global, flow: &F) -> Result<Solution<F::Fact>, AllocError>
     ensures count { IfOk result (λ solution. length solution ≡ (F.problem flow.now).points) }
     ensures least { IfOk result
         (λ solution. IsLeast F.Fact.order (F.problem flow.now) (at_points (F.problem flow.now) solution)) }
+    ensures derived { IfOk result
+        (λ solution. (k : ℕ) → k < (F.problem flow.now).points
+        → IsDerived F.Fact.order (F.problem flow.now) k (at_points (F.problem flow.now) solution k)) }
 {
     let rows = readers(alloc, flow)?;
     let mut search = begin(alloc, flow)?;

@@ -1,4 +1,5 @@
 pub mod Agendas
+pub mod Counts
 pub mod Tables
 pub mod Points
 pub mod Steps

@@ -1,4 +1,4 @@
-use Rattle.std.specs.Prelude.{◌≡◌, ℕ, ◌<◌, Option, Some}
+use Rattle.std.specs.Prelude.{◌≡◌, ℕ, ◌<◌, Some}
 use Rattle.fix_engine.specs.Order.{Order}
 use Rattle.fix_engine.specs.Problem.{Problem}
 use Rattle.fix_engine.specs.Solution.{carried}

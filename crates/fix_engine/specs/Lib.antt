@@ -5,5 +5,6 @@ pub mod Solution
 pub mod Derived
 pub mod Agenda
 pub mod Readers
+pub mod Counting
 pub mod Search
 pub mod Chains

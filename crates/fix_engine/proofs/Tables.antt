@@ -11,6 +11,7 @@ use Rattle.std.proofs.lemmas.Option.{get_or_from_slice_get, slice_get-get_or}
 use Rattle.fix_engine.specs.Problem.{Problem}
 use Rattle.fix_engine.specs.Lawful.{IsLawful}
 use Rattle.fix_engine.specs.Order.{Order}
+use Rattle.fix_engine.specs.Agenda.{Waiting, Grows}
 use Rattle.fix_engine.specs.Readers.{reads, AreReaders, AreOffsets, AllWait, readers_of, rows_from, rows_of}
 use Rattle.fix_engine.specs.Counting.{hit, also_hit, reads_of, sum_below, AreCounts, IsPlaced, AreFilled, ArePlaced}
 use Rattle.fix_engine.proofs.Counts.{hit_same, hit_other, sum_below-le, sum_below-same, sum_below-reads_of, reads_of-le, reads_small}
@@ -285,8 +286,8 @@ module _ {Fact : Type 0} (order : Order Fact) (p : Problem Fact) (law : IsLawful
         let in_list : h.0 < length list = let w = AreOffsets-placed.within (suc k) (let c = are.filled.count in omega arith) in omega arith in
         subst (λ (row : List ℕ). Contains row e) (sym (row_at k l)) (h.0 - get_or offsets k 0, inside, read ∙ (get_or_default list h.0 e 0 in_list ∙ h.3))
 
-    row_within : (k e : ℕ) → Contains (readers_of (rows_of offsets list) k) e → e < p.edges
-    row_within k e h =
+    placed_within : (k e : ℕ) → Contains (readers_of (rows_of offsets list) k) e → e < p.edges
+    placed_within k e h =
         ⊎_elim (λ (l : k < p.points). All-contains (λ x. x < p.edges) (slice_range list (get_or offsets k 0) (get_or offsets (suc k) 0)) e (All-take (λ x. x < p.edges) (get_or offsets (suc k) 0 - get_or offsets k 0) _ (All-drop (λ x. x < p.edges) (get_or offsets k 0) list are.within)) (subst (λ (row : List ℕ). Contains row e) (row_at k l) h)) (λ (m : p.points ≤ k). let none : readers_of (rows_of offsets list) k ≡ [] = get_or_past (rows_of offsets list) k [] (let c = are.filled.count in let n = rows_of-length offsets list in omega arith) in let l = (subst (λ (row : List ℕ). Contains row e) none h).1 in absurd (omega arith)) (cases_lt k p.points)
 
     pub AreReaders-placed : AreReaders p p.edges (rows_of offsets list)
@@ -295,27 +296,31 @@ module _ {Fact : Type 0} (order : Order Fact) (p : Problem Fact) (law : IsLawful
           count = let c = are.filled.count in let n = rows_of-length offsets list in omega arith;
           source = λ e l. in_row _ e (law.source e l) (are.source e l);
           also = λ e q l h. in_row q e (law.also e q l h) (are.also e q l h);
-          within = row_within;
+          within = placed_within;
           total = let sums = rows_of-total offsets list p.points (let c = are.filled.count in omega arith) AreOffsets-placed in let first = begins_at 0 (omega arith) in let last = begins_at p.points (omega arith) in let all_reads = sum_below-reads_of p p.edges p.points law.source law.also in omega arith;
         }
 
--- a row as the code reads it
-pub row-read : (rows : List (List ℕ)) (k i : ℕ) (row : List ℕ) → i ≡ k → i < length rows → slice_get rows i ≡ Some row → row ≡ readers_of rows k
-row-read rows k i row at l read =
-    sym (get_or_from_slice_get rows i row [] read) ∙ ap (λ (j : ℕ). readers_of rows j) at
+-- a row of the table, as the code reads it
+row_is : (rows : List (List ℕ)) (i k : ℕ) (row : List ℕ) → slice_get rows i ≡ Some row → i ≡ k → readers_of rows k ≡ row
+row_is rows i k row read at =
+    ap (λ (j : ℕ). readers_of rows j) (sym at) ∙ get_or_from_slice_get rows i row [] read
 
 -- a row has edges alone
-pub AreReaders-row : {Fact : Type 0} (p : Problem Fact) (n : ℕ) (rows : List (List ℕ)) → AreReaders p n rows → (k : ℕ) (row : List ℕ) → row ≡ readers_of rows k → All (λ e. e < n) row
-AreReaders-row p n rows readers k row read i d m =
-    readers.within k _ (subst (λ (xs : List ℕ). Contains xs (get_or row i d)) read (Contains-get_or row i d m))
+pub row_within : {Fact : Type 0} (p : Problem Fact) (n m : ℕ) (rows : List (List ℕ)) (i : ℕ) (row : List ℕ) → AreReaders p n rows → m ≡ n → slice_get rows i ≡ Some row → All (λ e. e < m) row
+row_within p n m rows i row readers same read k d l =
+    let in_row : Contains (readers_of rows i) (get_or row k d) = subst (λ (xs : List ℕ). Contains xs (get_or row k d)) (sym (row_is rows i i row read refl)) (Contains-get_or row k d l) in
+    let within = readers.within i (get_or row k d) in_row in
+    omega arith
+
+-- an agenda that grows by a row grows by the readers of its point
+pub row_grows : (before after : Waiting) (rows : List (List ℕ)) (i k : ℕ) (row : List ℕ) → Grows before after (length row) → slice_get rows i ≡ Some row → i ≡ k → Grows before after (length (readers_of rows k))
+row_grows before after rows i k row grows read at =
+    subst (λ (xs : List ℕ). Grows before after (length xs)) (sym (row_is rows i k row read at)) grows
 
 -- where each edge of a point's row waits, each that reads the point's fact does
 pub all_wait : {Fact : Type 0} (p : Problem Fact) (rows : List (List ℕ)) (i k : ℕ) (row waiting : List ℕ) → AreReaders p p.edges rows → slice_get rows i ≡ Some row → i ≡ k → All (Contains waiting) row → AllWait p k waiting
 all_wait p rows i k row waiting readers read at listed =
     record {
-      source = λ e l is. All-contains (Contains waiting) row e listed (subst (λ (xs : List ℕ). Contains xs e) row_is (subst (λ (j : ℕ). Contains (readers_of rows j) e) is (readers.source e l)));
-      also = λ e l is. All-contains (Contains waiting) row e listed (subst (λ (xs : List ℕ). Contains xs e) row_is (readers.also e k l is));
+      source = λ e l is. All-contains (Contains waiting) row e listed (subst (λ (xs : List ℕ). Contains xs e) (row_is rows i k row read at) (subst (λ (j : ℕ). Contains (readers_of rows j) e) is (readers.source e l)));
+      also = λ e l is. All-contains (Contains waiting) row e listed (subst (λ (xs : List ℕ). Contains xs e) (row_is rows i k row read at) (readers.also e k l is));
     }
-  where
-    row_is : readers_of rows k ≡ row
-    row_is = ap (λ (j : ℕ). readers_of rows j) (sym at) ∙ get_or_from_slice_get rows i row [] read

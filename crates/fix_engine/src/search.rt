@@ -83,7 +83,6 @@ fn carry<F: Flow>(
 }
 
 /// Adds each edge that reads the fact at an edge's goal to what is to be visited.
-#[tactic(auto, using(crate::proofs::Tables::all_wait))]
 fn wake<F: Flow>(
     flow: &F,
     readers: &Readers,

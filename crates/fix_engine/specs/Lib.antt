@@ -2,9 +2,9 @@ pub mod Order
 pub mod Problem
 pub mod Lawful
 pub mod Solution
+pub mod Derived
 pub mod Agenda
 pub mod Readers
+pub mod Counting
 pub mod Search
-pub mod Examples
 pub mod Chains
-pub mod ExampleLaws

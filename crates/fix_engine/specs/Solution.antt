@@ -1,4 +1,5 @@
-use Rattle.std.specs.Prelude.{ℕ, ◌<◌, List, slice_get, unwrap_or, option_map}
+use Rattle.std.specs.Prelude.{ℕ, ◌<◌, ◌==◌, if◌then◌else◌, List, slice_get, unwrap_or, option_map}
+use Rattle.std.proofs.Common.{zero, suc}
 use Rattle.fix_engine.specs.Order.{Order, Below}
 use Rattle.fix_engine.specs.Problem.{Problem}
 
@@ -20,3 +21,8 @@ pub record IsLeast {Fact : Type 0} (order : Order Fact) (p : Problem Fact) (s : 
 -- a list of facts as the fact at each point; past its end the start
 abbrev pub at_points : {Fact : Type 0} → Problem Fact → List Fact → ℕ → Fact
 at_points p facts k = unwrap_or (slice_get facts k) (p.start k)
+
+-- the start at a point, joined with what each of the first n edges makes, of those that lead to it
+abbrev pub gathered : {Fact : Type 0} → Order Fact → Problem Fact → (ℕ → Fact) → ℕ → ℕ → Fact
+gathered order p s k zero = p.start k
+gathered order p s k (suc n) = (if p.goal n == k then order.join (gathered order p s k n) (carried p s n) else gathered order p s k n)

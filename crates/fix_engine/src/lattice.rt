@@ -1,4 +1,4 @@
-ghost use Rattle.std.specs.Prelude.{◌≡◌, ◌≢◌, OnOk, IfOk, MatchBool};
+ghost use Rattle.std.specs.Prelude.{◌≡◌, ◌≢◌, OnOk, OnErr, IfOk, MatchBool};
 
 use std::alloc::AllocError;
 
@@ -14,10 +14,11 @@ pub trait Lattice {
         requires { order.Alike self.now other.now }
         ensures { result ≡ order.leq self.now other.now };
 
-    /// Makes this fact the join of both, and answers whether that changed it. After an `Err`, which
-    /// is want of memory, the fact may be any.
+    /// Makes this fact the join of both, and answers whether that changed it. `Err` is want of
+    /// memory, and leaves the fact as it was.
     fn join(&mut self, other: &Self) -> Result<bool, AllocError>
         requires { order.Alike self.old other.now }
         ensures joined { OnOk result (self.new ≡ order.join self.old other.now) }
-        ensures changed { IfOk result (λ changed. MatchBool changed (self.new ≢ self.old) (self.new ≡ self.old)) };
+        ensures changed { IfOk result (λ changed. MatchBool changed (self.new ≢ self.old) (self.new ≡ self.old)) }
+        ensures kept { OnErr result (self.new ≡ self.old) };
 }

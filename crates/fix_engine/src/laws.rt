@@ -1,5 +1,5 @@
 ghost use Rattle.std.specs.Prelude.{◌≡◌, ℕ, ◌<◌};
-ghost use Rattle.fix_engine.specs.Solution.{IsLeast};
+ghost use Rattle.fix_engine.specs.Solution.{IsLeast, gathered};
 
 use crate::flow::Flow;
 
@@ -9,4 +9,12 @@ pub fn least_is_one<F: Flow>(flow: &F)
         → IsLeast F.Fact.order (F.problem flow.now) s
         → IsLeast F.Fact.order (F.problem flow.now) t
         → (k : ℕ) → k < (F.problem flow.now).points → s k ≡ t k }
+{}
+
+/// The least solution is, at each point, the join of the start there and of what each edge that leads
+/// there makes of it.
+pub fn least_is_gathered<F: Flow>(flow: &F)
+    ensures { (s : ℕ → F.Fact) → IsLeast F.Fact.order (F.problem flow.now) s
+        → (k : ℕ) → k < (F.problem flow.now).points
+        → s k ≡ gathered F.Fact.order (F.problem flow.now) s k (F.problem flow.now).edges }
 {}

@@ -11,9 +11,6 @@ mod solution;
 
 pub use flow::Flow;
 pub use lattice::Lattice;
-pub use laws::least_is_one;
+pub use laws::{least_is_gathered, least_is_one};
 pub use search::solve;
 pub use solution::Solution;
-
-#[cfg(test)]
-mod tests;

@@ -1,13 +1,15 @@
-ghost use Rattle.std.specs.Prelude.{◌≡◌, ℕ, ◌+◌, ◌*◌, ◌<◌, ◌≤◌, List, ◌∷◌, length, Some, IfOk, OnOk, Option, option_map, slice_get, unwrap_or};
+ghost use Rattle.std.specs.Prelude.{◌≡◌, ℕ, ◌+◌, ◌*◌, ◌<◌, ◌≤◌, List, [], ◌∷◌, length, Some, IfOk, OnOk, Option, option_map, slice_get, unwrap_or};
 ghost use Rattle.std.specs.Option.{option_copied};
-ghost use Rattle.fix_engine.specs.Readers.{AreReaders, reads};
+ghost use Rattle.fix_engine.specs.Agenda.{Grows};
+ghost use Rattle.fix_engine.specs.Readers.{AreReaders, AllWait, readers_of};
 ghost use Rattle.fix_engine.specs.Solution.{at_points, carried, IsLeast};
-ghost use Rattle.fix_engine.specs.Search.{IsOnTheWay, MetOrWaits, visits_left};
+ghost use Rattle.fix_engine.specs.Derived.{IsDerived};
+ghost use Rattle.fix_engine.specs.Search.{IsOnTheWay, MetOrWaits, EndsWithin};
 
 use crate::agenda::Agenda;
 use crate::flow::Flow;
 use crate::lattice::Lattice;
-use crate::readers::{Row, readers};
+use crate::readers::Readers;
 use crate::solution::Solution;
 use std::alloc::{AllocError, Global};
 
@@ -16,8 +18,6 @@ use std::alloc::{AllocError, Global};
 struct Search<Fact> {
     /// The fact at each point so far.
     facts: Vec<Fact>,
-    /// How often the fact at each point can still rise.
-    rooms: Vec<u64>,
     agenda: Agenda,
 }
 
@@ -37,25 +37,19 @@ fn starts<F: Flow>(alloc: Global, flow: &F) -> Result<Vec<F::Fact>, AllocError>
 
 /// Where a search begins: at the starts, with each edge to be visited.
 fn begin<F: Flow>(alloc: Global, flow: &F) -> Result<Search<F::Fact>, AllocError>
-    ensures way { IfOk result
-        (λ search. IsOnTheWay F.Fact.order (F.problem flow.now) search.facts.items search.rooms.items) }
+    ensures way { IfOk result (λ search. IsOnTheWay F.Fact.order (F.problem flow.now) search.facts.items) }
     ensures edges { IfOk result (λ search. search.agenda.edges ≡ (F.problem flow.now).edges) }
     ensures met { IfOk result
         (λ search. MetOrWaits F.Fact.order (F.problem flow.now) search.facts.items search.agenda.list) }
-    // What falls with each visit is at most the height for each fact that an edge reads.
-    ensures visits { IfOk result
+    // Each edge reads at most two facts, each of which rises no more often than the height says.
+    ensures ends { IfOk result
         (λ search. (rows : List (List ℕ)) → AreReaders (F.problem flow.now) (F.problem flow.now).edges rows
-        → length search.agenda.list + visits_left search.rooms.items rows
-        ≤ reads (F.problem flow.now) (F.problem flow.now).edges * (F.problem flow.now).height) }
+        → EndsWithin F.Fact.order (F.problem flow.now) rows search.facts.items search.agenda.list
+        (2 * (F.problem flow.now).edges * (F.problem flow.now).height)) }
 {
     let facts = starts(alloc, flow)?;
-    let rooms = vec![in alloc; flow.height().saturating_sub(1); facts.len()]?;
     let agenda = Agenda::all(alloc, flow.edges())?;
-    Ok(Search {
-        facts,
-        rooms,
-        agenda,
-    })
+    Ok(Search { facts, agenda })
 }
 
 /// The fact at a second point, if there is one.
@@ -88,50 +82,93 @@ fn carry<F: Flow>(
     flow.transfer(alloc, edge, &facts[flow.source(edge) as usize], also)
 }
 
+/// Adds each edge that reads the fact at an edge's goal to what is to be visited.
+fn wake<F: Flow>(
+    flow: &F,
+    readers: &Readers,
+    agenda: &mut Agenda,
+    edge: u32,
+) -> Result<(), AllocError>
+    requires edge { edge < (F.problem flow.now).edges }
+    requires readers { AreReaders (F.problem flow.now) (F.problem flow.now).edges readers.now }
+    requires edges { agenda.old.edges ≡ (F.problem flow.now).edges }
+    ensures grows { OnOk result
+        (Grows agenda.old agenda.new (length (readers_of readers.now ((F.problem flow.now).goal edge)))) }
+    ensures woken { OnOk result
+        (AllWait (F.problem flow.now) ((F.problem flow.now).goal edge) agenda.new.list) }
+{
+    agenda.add_all(readers.of(flow.goal(edge)))?;
+    Ok(())
+}
+
 /// Visits an edge: what it makes is joined to the fact at its goal, and where this fact rose, each
 /// edge that reads it is to be visited.
 fn visit<F: Flow>(
     alloc: Global,
     flow: &F,
-    rows: &[Row],
+    readers: &Readers,
     search: &mut Search<F::Fact>,
     edge: u32,
 ) -> Result<(), AllocError>
     requires edge { edge < (F.problem flow.now).edges }
-    requires rows { AreReaders (F.problem flow.now) (F.problem flow.now).edges rows.now }
-    requires way { IsOnTheWay F.Fact.order (F.problem flow.now) search.old.facts.items search.old.rooms.items }
+    requires readers { AreReaders (F.problem flow.now) (F.problem flow.now).edges readers.now }
+    requires way { IsOnTheWay F.Fact.order (F.problem flow.now) search.old.facts.items }
     requires edges { search.old.agenda.edges ≡ (F.problem flow.now).edges }
     requires met { MetOrWaits F.Fact.order (F.problem flow.now) search.old.facts.items (edge ∷ search.old.agenda.list) }
-    ensures way { OnOk result
-        (IsOnTheWay F.Fact.order (F.problem flow.now) search.new.facts.items search.new.rooms.items) }
+    ensures way { OnOk result (IsOnTheWay F.Fact.order (F.problem flow.now) search.new.facts.items) }
     ensures edges { OnOk result (search.new.agenda.edges ≡ (F.problem flow.now).edges) }
     ensures met { OnOk result
         (MetOrWaits F.Fact.order (F.problem flow.now) search.new.facts.items search.new.agenda.list) }
-    ensures visits { OnOk result
-        (length search.new.agenda.list + visits_left search.new.rooms.items rows.now
-        ≤ length search.old.agenda.list + visits_left search.old.rooms.items rows.now) }
+    ensures ends { OnOk result
+        ((n : ℕ)
+        → EndsWithin F.Fact.order (F.problem flow.now) readers.now search.old.facts.items search.old.agenda.list n
+        → EndsWithin F.Fact.order (F.problem flow.now) readers.now search.new.facts.items search.new.agenda.list n) }
 {
-    let goal = flow.goal(edge) as usize;
     let made = carry(alloc, flow, &search.facts, edge)?;
-    if !search.facts[goal].join(&made)? {
+    if !search.facts[flow.goal(edge) as usize].join(&made)? {
         return Ok(());
     }
-    search.rooms[goal] -= 1;
-    search.agenda.add_all(rows[goal].as_slice())?;
+    wake(flow, readers, &mut search.agenda, edge)?;
     Ok(())
 }
 
-/// The least solution of a flow. `Err` is want of memory.
+/// Visits edges until none waits.
+fn settle<F: Flow>(
+    alloc: Global,
+    flow: &F,
+    readers: &Readers,
+    search: &mut Search<F::Fact>,
+) -> Result<(), AllocError>
+    requires readers { AreReaders (F.problem flow.now) (F.problem flow.now).edges readers.now }
+    requires way { IsOnTheWay F.Fact.order (F.problem flow.now) search.old.facts.items }
+    requires edges { search.old.agenda.edges ≡ (F.problem flow.now).edges }
+    requires met { MetOrWaits F.Fact.order (F.problem flow.now) search.old.facts.items search.old.agenda.list }
+    requires ends { EndsWithin F.Fact.order (F.problem flow.now) readers.now search.old.facts.items search.old.agenda.list
+        (2 * (F.problem flow.now).edges * (F.problem flow.now).height) }
+    ensures way { OnOk result (IsOnTheWay F.Fact.order (F.problem flow.now) search.new.facts.items) }
+    ensures met { OnOk result (MetOrWaits F.Fact.order (F.problem flow.now) search.new.facts.items []) }
+{
+    // Only the proof that the search ends asks how many visits are left.
+    let mut visits = 2 * flow.edges() as u128 * flow.height() as u128;
+    while let Some(edge) = search.agenda.next() {
+        visits -= 1;
+        visit(alloc, flow, readers, search, edge)?;
+    }
+    Ok(())
+}
+
+/// The least solution of a flow, each of whose facts is derived. `Err` is want of memory.
 pub fn solve<F: Flow>(alloc: Global, flow: &F) -> Result<Solution<F::Fact>, AllocError>
     ensures count { IfOk result (λ solution. length solution ≡ (F.problem flow.now).points) }
     ensures least { IfOk result
         (λ solution. IsLeast F.Fact.order (F.problem flow.now) (at_points (F.problem flow.now) solution)) }
+    ensures derived { IfOk result
+        (λ solution. (k : ℕ) → k < (F.problem flow.now).points
+        → IsDerived F.Fact.order (F.problem flow.now) k (at_points (F.problem flow.now) solution k)) }
 {
-    let rows = readers(alloc, flow)?;
+    let readers = Readers::new(alloc, flow)?;
     let mut search = begin(alloc, flow)?;
-    while let Some(edge) = search.agenda.next() {
-        visit(alloc, flow, &rows, &mut search, edge)?;
-    }
+    settle(alloc, flow, &readers, &mut search)?;
     let Search { facts, .. } = search;
     Ok(Solution::of(facts))
 }

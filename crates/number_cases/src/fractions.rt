@@ -6,19 +6,22 @@ use q128::{Q, QOp, TooWide};
 use std::alloc::{AllocError, Global};
 use std::cmp::Ordering;
 
+/// A number, in a word.
+fn number_of(word: &str) -> Result<i128, &'static str> {
+    word.parse::<i128>().ok().ok_or("no number")
+}
+
 /// The fraction that a word is.
-pub fn fraction_of(word: &str) -> Result<Q, CaseError> {
+pub fn fraction_of(word: &str) -> Result<Q, &'static str> {
     let (num, den) = word.split_once('/').ok_or("a fraction has a `/`")?;
-    let num = num.parse::<i128>()?;
-    let den = den.parse::<i128>()?;
+    let num = number_of(num)?;
+    let den = number_of(den)?;
     if den == 0 {
-        return Err(CaseError::Malformed("a denominator is 0"));
+        return Err("a denominator is 0");
     }
-    Ok(
-        Q::new(num, den)
-            .ok()
-            .ok_or("a fraction of the input is too wide")?,
-    )
+    Q::new(num, den)
+        .ok()
+        .ok_or("a fraction of the input is too wide")
 }
 
 pub fn text_of(alloc: Global, q: Q) -> Result<String, AllocError> {
@@ -49,19 +52,19 @@ fn outcome(alloc: Global, answer: Result<Q, TooWide>) -> Result<String, AllocErr
 
 /// The fraction of two numbers.
 fn made(alloc: Global, num: &str, den: &str) -> Result<String, CaseError> {
-    let num = num.parse::<i128>()?;
-    let den = den.parse::<i128>()?;
+    let num = number_of(num)?;
+    let den = number_of(den)?;
     if den == 0 {
         return Err(CaseError::Malformed("a denominator is 0"));
     }
     Ok(outcome(alloc, Q::new(num, den))?)
 }
 
-fn quotient(a: Q, b: Q) -> Result<Result<Q, TooWide>, CaseError> {
+fn quotient(alloc: Global, a: Q, b: Q) -> Result<String, CaseError> {
     if b.numerator() == 0 {
         return Err(CaseError::Malformed("a divisor is 0"));
     }
-    Ok(a.div(b))
+    Ok(outcome(alloc, a.div(b))?)
 }
 
 fn order_name(order: Ordering) -> &'static str {
@@ -74,22 +77,21 @@ fn order_name(order: Ordering) -> &'static str {
 
 /// An operation on two fractions.
 fn operation(alloc: Global, name: &str, a: Q, b: Q) -> Result<String, CaseError> {
-    let answer = match name {
-        "add" => a.add(b),
-        "sub" => a.sub(b),
-        "mul" => a.mul(b),
-        "div" => quotient(a, b)?,
-        "cmp" => return Ok(String::from_str(alloc, order_name(a.cmp(&b)))?),
-        "same" => return Ok(format!(in alloc; "{}", a == b)?),
-        _ => return Err(CaseError::Malformed("no such operation")),
-    };
-    Ok(outcome(alloc, answer)?)
+    match name {
+        "add" => Ok(outcome(alloc, a.add(b))?),
+        "sub" => Ok(outcome(alloc, a.sub(b))?),
+        "mul" => Ok(outcome(alloc, a.mul(b))?),
+        "div" => quotient(alloc, a, b),
+        "cmp" => Ok(String::from_str(alloc, order_name(a.cmp(&b)))?),
+        "same" => Ok(format!(in alloc; "{}", a == b)?),
+        _ => Err(CaseError::Malformed("no such operation")),
+    }
 }
 
 pub fn answer(alloc: Global, input: &str) -> Result<String, CaseError> {
     let words = words_of(alloc, input)?;
     match words.as_slice() {
-        [_, number] => Ok(text_of(alloc, Q::whole(number.parse::<i128>()?))?),
+        [_, number] => Ok(text_of(alloc, Q::whole(number_of(number.as_str())?))?),
         [name, num, den] if name.as_str() == "new" => made(alloc, num.as_str(), den.as_str()),
         [name, a, b] => {
             let a = fraction_of(a.as_str())?;

@@ -34,7 +34,9 @@ fn mults_of(alloc: Global, text: &str) -> Result<Mults, CaseError> {
     let mut m = Mults::new(alloc);
     for word in words_of(alloc, text)? {
         let (row, factor) = word.split_once(':').ok_or("a multiplier has a `:`")?;
-        m.push(row.parse::<u32>()?, fraction_of(factor)?)?;
+        let row = row.parse::<u32>()?;
+        let factor = fraction_of(factor)?;
+        m.push(row, factor)?;
     }
     Ok(m)
 }
@@ -43,7 +45,8 @@ fn mults_of(alloc: Global, text: &str) -> Result<Mults, CaseError> {
 fn point_of(alloc: Global, text: &str) -> Result<Point, CaseError> {
     let mut numbers = Vec::new(alloc);
     for word in words_of(alloc, text)? {
-        numbers.push(fraction_of(word.as_str())?)?;
+        let number = fraction_of(word.as_str())?;
+        numbers.push(number)?;
     }
     let (t, v) = numbers.as_slice().split_first().ok_or("a point has a t")?;
     Ok(Point {

@@ -12,7 +12,7 @@ pub record IsEquivalence {A : Type 0} (same : A → A → Type 0) : Type 0 where
   pub transitive : (x y z : A) → same x y → same y z → same x z
 
 -- an operation that depends on what is the same alone, associative and commutative, with a neutral element
-pub record IsMonoid {A : Type 0} (same : A → A → Type 0) (with : A → A → A) (neutral : A) : Type 0 where
+pub record IsCommutativeMonoid {A : Type 0} (same : A → A → Type 0) (with : A → A → A) (neutral : A) : Type 0 where
   pub respects : (x x' y y' : A) → same x x' → same y y' → same (with x y) (with x' y')
   pub associates : (x y z : A) → same (with (with x y) z) (with x (with y z))
   pub commutes : (x y : A) → same (with x y) (with y x)
@@ -21,8 +21,8 @@ pub record IsMonoid {A : Type 0} (same : A → A → Type 0) (with : A → A →
 -- a field, up to `same`
 pub record IsField {A : Type 0} (same : A → A → Type 0) (plus times : A → A → A) (zero one : A) (negative inverse : A → A) : Type 0 where
   pub equivalence : IsEquivalence same
-  pub sums : IsMonoid same plus zero
-  pub products : IsMonoid same times one
+  pub sums : IsCommutativeMonoid same plus zero
+  pub products : IsCommutativeMonoid same times one
   pub distributes : (x y z : A) → same (times x (plus y z)) (plus (times x y) (times x z))
   pub negatives : (x : A) → same (plus x (negative x)) zero
   pub inverses : (x : A) → (same x zero → ⊥) → same (times x (inverse x)) one

@@ -16,16 +16,16 @@ use std::alloc::{AllocError, Global};
 use std::collections::BTreeMap;
 use world::MemberId;
 
-/// Adds the cost of a method.
-pub(crate) fn learn(known: &mut Known, m: MemberId, cost: u128) -> Result<(), AllocError>
+// Adds the cost of a method.
+fn learn(known: &mut Known, m: MemberId, cost: u128) -> Result<(), AllocError>
     ensures { OnOk result ((key : ℕ × ℕ) → value_in known.new key ≡ (if is_at (key_cmp (m.class, m.member)) key then Some cost else value_in known.old key)) }
 {
     known.insert((m.class, m.member), cost)?;
     Ok(())
 }
 
-/// Adds the cost of a method, by those of the methods that it calls.
-pub(crate) fn price<F: CostFunction>(
+// Adds the cost of a method, by those of the methods that it calls.
+fn price<F: CostFunction>(
     known: &mut Known,
     model: &CostModel<F>,
     reached: &Reached,

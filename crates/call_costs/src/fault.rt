@@ -4,7 +4,7 @@ ghost use Rattle.call_costs.specs.declared.fault.CostFault.TheVariants as fault;
 use std::alloc::{AllocError, AllocFailed};
 
 /// Why there are no costs of a program's methods.
-#[derive(Clone, Copy, Debug, PartialEq, Eq)]
+#[derive(Clone, Copy)]
 pub enum CostFault {
     /// A method costs more than 2^127 - 1.
     TooGreat,

@@ -11,6 +11,3 @@ pub use callees::costs;
 pub use fault::CostFault;
 pub use laws::{costs_bound_runs, runs_stand};
 pub use table::Costs;
-
-#[cfg(test)]
-mod tests;

@@ -3,7 +3,7 @@ ghost use Rattle.std.specs.Prelude.{◌≡◌, slice_get};
 use std::marker::Model;
 
 /// The costs of a program's methods, in their order. Contracts see the list.
-#[derive(Debug, Drop)]
+#[derive(Drop)]
 pub struct Costs {
     pub(crate) costs: Vec<u128>,
 }

@@ -23,7 +23,7 @@ use graph_core::Components;
 use std::alloc::{AllocError, Global};
 
 /// The kinds of faults that one class shows.
-#[derive(Clone, Copy, Debug, PartialEq, Eq)]
+#[derive(Clone, Copy)]
 pub(crate) enum FaultKind {
     Twice,
     MissingSuper,

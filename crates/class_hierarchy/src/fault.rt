@@ -5,7 +5,7 @@ use class_pool::Text;
 use std::alloc::{AllocError, AllocFailed};
 
 /// Why classes are no world.
-#[derive(Debug, Drop)]
+#[derive(Drop)]
 pub enum WorldFault {
     /// Another class before this one has its name.
     Twice { name: Text },

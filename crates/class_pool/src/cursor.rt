@@ -5,7 +5,7 @@ use byteorder::{BigEndian, ByteOrder};
 use std::marker::Model;
 
 /// Too few bytes are left. `at` is where the bytes end.
-#[derive(Clone, Copy, Debug, PartialEq, Eq)]
+#[derive(Clone, Copy)]
 pub struct Short {
     pub at: u32,
 }

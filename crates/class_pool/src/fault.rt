@@ -5,7 +5,7 @@ use crate::cursor::Short;
 use std::alloc::{AllocError, AllocFailed};
 
 /// Why bytes are no constant pool. Each place `at` is an offset from the file's first byte.
-#[derive(Clone, Copy, Debug, PartialEq, Eq)]
+#[derive(Clone, Copy, Debug)]
 pub enum PoolFault {
     /// Too few bytes are left. The place is where the bytes end.
     Short { at: u32 },

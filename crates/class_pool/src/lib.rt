@@ -25,6 +25,3 @@ pub use utf8::is_utf8;
 
 /// A list of bytes.
 pub type Bytes = Sequence<u8>;
-
-#[cfg(test)]
-mod tests;

@@ -5,7 +5,7 @@ use std::marker::Model;
 
 /// A list of values. Contracts see it as the list, and so a record of such lists is a plain record
 /// of lists in a definition.
-#[derive(Debug, Drop)]
+#[derive(Drop)]
 pub struct Sequence<T> {
     items: Vec<T>,
 }

@@ -7,7 +7,7 @@ use std::marker::Model;
 use std::rc::Rc;
 
 /// The bytes of a name. Copies of one name share its bytes, and contracts see the list of bytes.
-#[derive(Debug, Drop)]
+#[derive(Drop)]
 pub struct Text {
     bytes: Rc<Vec<u8>>,
 }

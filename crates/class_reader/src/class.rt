@@ -51,7 +51,7 @@ pub struct ClassRecord {
 }
 
 /// A field that a class declares (JVMS 4.5).
-#[derive(Debug, Drop)]
+#[derive(Drop)]
 pub struct Field {
     /// The access flags (JVMS 4.5, table 4.5-A).
     pub flags: u16,
@@ -61,7 +61,7 @@ pub struct Field {
 }
 
 /// A method that a class declares (JVMS 4.6).
-#[derive(Debug, Drop)]
+#[derive(Drop)]
 pub struct Method {
     /// The access flags (JVMS 4.6, table 4.6-A).
     pub flags: u16,
@@ -73,7 +73,7 @@ pub struct Method {
 }
 
 /// The code of a method (JVMS 4.7.3).
-#[derive(Debug, Drop)]
+#[derive(Drop)]
 pub struct Code {
     /// How many words the operand stack holds at most.
     pub max_stack: u16,
@@ -87,7 +87,7 @@ pub struct Code {
 
 /// An entry of an exception table (JVMS 4.7.3): from `start` on and before `end` what is thrown goes on at
 /// `handler`.
-#[derive(Debug, Drop)]
+#[derive(Drop)]
 pub struct Handler {
     pub start: u16,
     pub end: u16,

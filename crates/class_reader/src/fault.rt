@@ -7,7 +7,7 @@ use class_pool::{PoolFault, Short};
 use std::alloc::{AllocError, AllocFailed};
 
 /// Why bytes are no class file. Each place `at` is an offset from the file's first byte.
-#[derive(Clone, Copy, Debug, PartialEq, Eq)]
+#[derive(Clone, Copy, Debug)]
 pub enum ClassFault {
     /// The first four bytes aren't CAFEBABE (JVMS 4.1).
     Magic { at: u32 },

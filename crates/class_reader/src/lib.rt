@@ -22,6 +22,3 @@ pub use fault::ClassFault;
 pub use flags::{is_abstract, is_native, is_static};
 pub use laws::{is_decided, read_is_class};
 pub use reader::read;
-
-#[cfg(test)]
-mod tests;

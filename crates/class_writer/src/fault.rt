@@ -6,7 +6,7 @@ ghost use Rattle.class_writer.specs.declared.fault.WriteFault.TheVariants.{Memor
 use std::alloc::AllocError;
 
 /// A count of a class file that is written in two bytes (JVMS 4.1, 4.7.3).
-#[derive(Clone, Copy, Debug, PartialEq, Eq)]
+#[derive(Clone, Copy, Debug)]
 pub enum What {
     /// The count of the constant pool, which is one more than the indices that it has.
     Entries,
@@ -21,7 +21,7 @@ pub enum What {
 }
 
 /// Why a class can't be written.
-#[derive(Clone, Copy, Debug, PartialEq, Eq)]
+#[derive(Clone, Copy, Debug)]
 pub enum WriteFault {
     /// There are more than the file can count.
     TooMany {

@@ -14,6 +14,3 @@ mod writer;
 pub use fault::{What, WriteFault};
 pub use laws::{over_is_none, written_is_class_file};
 pub use writer::write;
-
-#[cfg(test)]
-mod tests;

@@ -6,7 +6,7 @@ use std::alloc::{AllocError, AllocFailed};
 use world::MemberId;
 
 /// Why there is no program of a method.
-#[derive(Clone, Copy, Debug, PartialEq, Eq)]
+#[derive(Clone, Copy)]
 pub enum FlowFault {
     /// The class of the name isn't there, or it declares no such method, or one without code.
     NoMethod,

@@ -8,7 +8,7 @@ use world::MemberId;
 
 /// An instruction of a method, the place of its first byte in the code, and the methods that it can call, in the order
 /// of the names of their classes; none where it is no call, or a call without a target.
-#[derive(Debug, Drop)]
+#[derive(Drop)]
 pub struct Planned {
     pub pc: u32,
     pub instr: Instr,
@@ -16,7 +16,7 @@ pub struct Planned {
 }
 
 /// A method that is reached, with the instructions of its code in order.
-#[derive(Debug, Drop)]
+#[derive(Drop)]
 pub struct Reached {
     pub method: MemberId,
     pub instructions: Sequence<Planned>,
@@ -24,7 +24,7 @@ pub struct Reached {
 
 /// The code that a method reaches: the methods in breadth-first order, the method itself first. Contracts see their
 /// list.
-#[derive(Debug, Drop)]
+#[derive(Drop)]
 pub struct Program {
     methods: Vec<Reached>,
     order: Vec<u32>,

@@ -19,7 +19,7 @@ use world::{MemberId, World};
 const ACC_SYNCHRONIZED: u16 = 0x0020;
 
 /// An instruction with the methods that it can call, or the construct that stands against it.
-#[derive(Debug, Drop)]
+#[derive(Drop)]
 pub(crate) struct Site {
     pub pc: u32,
     pub instr: Instr,
@@ -27,14 +27,14 @@ pub(crate) struct Site {
 }
 
 /// The instructions of a method's code in order, and the place behind them at which none stands, before the end.
-#[derive(Debug, Drop)]
+#[derive(Drop)]
 pub(crate) struct Sites {
     pub sites: Sequence<Site>,
     pub broken: Option<u32>,
 }
 
 /// A method, the construct that stands against all of it, and its instructions.
-#[derive(Debug, Drop)]
+#[derive(Drop)]
 pub(crate) struct Scan {
     pub method: MemberId,
     pub against: Option<Construct>,

@@ -7,7 +7,7 @@ use std::alloc::{AllocError, AllocFailed};
 use world::ResolveFault;
 
 /// Why it isn't told which methods a call can run.
-#[derive(Clone, Copy, Debug, PartialEq, Eq)]
+#[derive(Clone, Copy)]
 pub(crate) enum LinkFault {
     /// The construct, which isn't analysed.
     Against(Construct),

@@ -6,6 +6,3 @@ mod model;
 
 pub use cost_function::{CostFunction, EachOne};
 pub use model::CostModel;
-
-#[cfg(test)]
-mod tests;

@@ -2,14 +2,14 @@ use crate::Word;
 use class_pool::{Sequence, Target};
 
 /// A path, and the index of the word that holds it, counted from 1.
-#[derive(Debug, Drop)]
+#[derive(Drop)]
 pub struct PathWord {
     pub path: Word,
     pub index: u64,
 }
 
 /// What is counted.
-#[derive(Debug, Drop)]
+#[derive(Drop)]
 pub enum Cost {
     /// Each instruction costs 1.
     Instructions,
@@ -20,7 +20,7 @@ pub enum Cost {
 }
 
 /// What the words ask for.
-#[derive(Debug, Drop)]
+#[derive(Drop)]
 pub enum Command {
     /// The bound of the target, with its proof where asked.
     Bound {

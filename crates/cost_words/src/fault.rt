@@ -4,7 +4,7 @@ ghost use Rattle.cost_words.specs.declared.fault.WordFault.TheVariants.{Memory};
 use std::alloc::{AllocError, AllocFailed};
 
 /// What is wrong with a word.
-#[derive(Clone, Copy, Debug, PartialEq, Eq)]
+#[derive(Clone, Copy)]
 pub enum WordKind {
     /// There is no word at all.
     NoCommand,
@@ -21,7 +21,7 @@ pub enum WordKind {
 }
 
 /// Why the words were not read.
-#[derive(Clone, Copy, Debug, PartialEq, Eq)]
+#[derive(Clone, Copy)]
 pub enum WordFault {
     /// Memory ran out.
     Memory,

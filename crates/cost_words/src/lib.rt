@@ -17,6 +17,3 @@ pub use commands::read;
 pub use descriptor::is_method_text;
 pub use fault::{WordFault, WordKind};
 pub use word::Word;
-
-#[cfg(test)]
-mod tests;

@@ -1,21 +1,7 @@
-//! Reads class files and prints an upper bound on the cost of a method.
+//! Reads class files and prints an upper bound on what one of their methods can cost.
 #![tactic(auto)]
 
-mod answer;
-mod classes;
-mod fetching;
-mod report;
-mod status;
-mod top;
-mod words;
-
-pub use status::{FaultKind, LimitKind, Status};
-pub use top::costa;
-
-#[cfg(test)]
-mod tests;
-
-use crate::report::exit_code;
+use analyser::{Status, costa, exit_code};
 use ports::{FileShelf, OutSink};
 use std::alloc::{AllocError, Global};
 use std::process::ExitCode;

@@ -306,9 +306,6 @@ once_to (f ∷ fields) is zero (suc j) d before inside same =
 once_to (f ∷ fields) is (suc i) (suc j) d before inside same =
     once_to fields (both_true (not (list_any (λ g. is_member f.0 g.0) fields)) (are_distinct fields) is).1 i j d (omega arith) (omega arith) same
 
-pub distinct_pairs : (fields : List (MemberId × Value)) → are_distinct fields ≡ true → AllPairs (λ f g. f.0 ≢ g.0) fields
-distinct_pairs fields is = once_to fields is
-
 once_from : (fields : List (MemberId × Value)) → AllPairs (λ f g. f.0 ≢ g.0) fields → IsTrue (are_distinct fields)
 once_from [] pairs = refl
 once_from (f ∷ fields) pairs =

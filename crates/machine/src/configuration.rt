@@ -6,7 +6,7 @@ use world::MemberId;
 pub type Statics = Sequence<(MemberId, Value)>;
 
 /// What an instruction can see: the running frame, the heap and the statics.
-#[derive(Debug, Drop)]
+#[derive(Drop)]
 pub struct Here {
     pub frame: Frame,
     pub heap: Heap,
@@ -14,7 +14,7 @@ pub struct Here {
 }
 
 /// What an instruction throws (JVMS 2.10).
-#[derive(Clone, Copy, Debug, PartialEq, Eq)]
+#[derive(Clone, Copy, PartialEq, Eq)]
 pub enum Thrown {
     NullPointer,
     ArrayIndex,
@@ -27,7 +27,7 @@ pub enum Thrown {
 }
 
 /// Why a run stopped.
-#[derive(Clone, Copy, Debug, PartialEq, Eq)]
+#[derive(Clone, Copy, PartialEq, Eq)]
 pub enum Stop {
     /// A kind, a height, a local's number, a descriptor or a pc doesn't fit.
     Shape,
@@ -40,7 +40,7 @@ pub enum Stop {
 }
 
 /// Whether a run goes on.
-#[derive(Clone, Copy, Debug, PartialEq, Eq)]
+#[derive(Clone, Copy, PartialEq, Eq)]
 pub enum Status {
     Running,
     /// The first method has returned. Its frame stands as it did before the return.
@@ -50,7 +50,7 @@ pub enum Status {
 }
 
 /// A configuration of the machine.
-#[derive(Debug, Drop)]
+#[derive(Drop)]
 pub struct State {
     pub here: Here,
     /// The frames that wait for a return, the last caller first.
@@ -61,7 +61,7 @@ pub struct State {
 }
 
 /// What a step was.
-#[derive(Clone, Copy, Debug, PartialEq, Eq)]
+#[derive(Clone, Copy, PartialEq, Eq)]
 pub enum Event {
     /// The run goes on.
     Went,

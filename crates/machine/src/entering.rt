@@ -24,7 +24,7 @@ use world::{MemberId, World};
 const MAX_NUMBERS: usize = 4294967295;
 
 /// Why a method isn't entered.
-#[derive(Clone, Copy, Debug, PartialEq, Eq)]
+#[derive(Clone, Copy)]
 pub enum EnterFault {
     /// No class of the name declares a method of this name and descriptor with code.
     NoMethod,

@@ -147,7 +147,7 @@ fn has_member(fields: &[(MemberId, Value)], m: MemberId) -> bool
 }
 
 // Whether no field stands there twice.
-pub(crate) fn are_distinct(fields: &[(MemberId, Value)]) -> bool
+fn are_distinct(fields: &[(MemberId, Value)]) -> bool
     ensures { result ≡ are_distinct fields.now }
 {
     let mut left = fields;

@@ -11,7 +11,7 @@ use std::mem;
 use world::MemberId;
 
 /// The frame of a method (JVMS 2.6).
-#[derive(Debug, Drop)]
+#[derive(Drop)]
 pub struct Frame {
     pub method: MemberId,
     /// Where the instruction that comes next stands in the method's code.
@@ -21,7 +21,7 @@ pub struct Frame {
 }
 
 /// The locals of a frame (JVMS 2.6.1). Contracts see them as the list of their words.
-#[derive(Debug, Drop)]
+#[derive(Drop)]
 pub struct Locals {
     words: Vec<Value>,
 }
@@ -114,7 +114,7 @@ fn as_kind(kind: Kind, word: Option<Value>, next: Option<Value>) -> Option<Value
 }
 
 /// A stack. Contracts see it as the list of its values, the top first.
-#[derive(Debug, Drop)]
+#[derive(Drop)]
 pub struct Stack<T> {
     items: Vec<T>,
 }

@@ -10,7 +10,7 @@ use std::marker::Model;
 use world::MemberId;
 
 /// What a reference refers to (JVMS 2.4).
-#[derive(Debug, Drop)]
+#[derive(Drop)]
 pub enum Cell {
     /// An object: the number of its class, and the values of its fields, each by its field.
     Object {
@@ -26,7 +26,7 @@ pub enum Cell {
 
 /// The objects and arrays (JVMS 2.5.3). Contracts see a list in which each stands at its number; a number at
 /// which nothing stands isn't held.
-#[derive(Debug, Drop)]
+#[derive(Drop)]
 pub struct Heap {
     cells: Vec<Cell>,
 }

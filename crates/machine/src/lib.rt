@@ -35,10 +35,3 @@ pub use frames::{Frame, Locals, Stack};
 pub use heap::{Cell, Heap};
 pub use laws::{at_most_one_step, moments_are_nests, outcomes_are_rows};
 pub use values::Value;
-
-#[cfg(test)]
-mod entering_tests;
-#[cfg(test)]
-mod step_tests;
-#[cfg(test)]
-mod tests;

@@ -1,6 +1,6 @@
 /// What a word of a local or of the operand stack holds (JVMS 2.6). A long takes two words, of which the second
 /// one is `Pad`.
-#[derive(Clone, Copy, Debug, PartialEq, Eq)]
+#[derive(Clone, Copy)]
 pub enum Value {
     Int(i32),
     Long(i64),

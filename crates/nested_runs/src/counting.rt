@@ -14,7 +14,7 @@ const CALL_COST: u64 = 2;
 const RETURN_COST: u64 = 1;
 
 /// What the running counter does in one step.
-#[derive(Clone, Copy, Debug)]
+#[derive(Clone, Copy)]
 pub enum Action {
     /// It counts down by one.
     Count,
@@ -25,7 +25,7 @@ pub enum Action {
 }
 
 /// A stack of counters, each of which called the next, and what they spent. Contracts see it as a `State`.
-#[derive(Debug, Drop)]
+#[derive(Drop)]
 pub struct Counters {
     running: u32,
     waiting: Vec<u32>,

@@ -12,6 +12,3 @@ pub use laws::{
     nests_are_steps, nests_keep_the_plan, runs_are_bounded, runs_are_nested, same_when_guarded,
 };
 pub use running::{RunError, run};
-
-#[cfg(test)]
-mod tests;

@@ -6,7 +6,7 @@ use crate::counting::{Action, Counters};
 use std::alloc::{AllocError, Global};
 
 /// Why a run did not come to the end of its actions.
-#[derive(Clone, Copy, Debug, PartialEq)]
+#[derive(Clone, Copy)]
 pub enum RunError {
     /// An action was not possible where it came.
     Stuck,

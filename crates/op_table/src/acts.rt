@@ -2,7 +2,7 @@ use crate::Construct;
 
 /// What an instruction does, for all opcodes that do it alike (JVMS 6.5). Distances are in bytes from the
 /// instruction's first, places are of the constant pool.
-#[derive(Clone, Copy, Debug, PartialEq, Eq)]
+#[derive(Clone, Copy, Debug)]
 pub enum Action {
     /// `nop`.
     Nothing,
@@ -78,7 +78,7 @@ pub enum Action {
 }
 
 /// What a value is computed with as (JVMS 2.11.1).
-#[derive(Clone, Copy, Debug, PartialEq, Eq)]
+#[derive(Clone, Copy, Debug)]
 pub enum Kind {
     Int,
     Long,
@@ -86,14 +86,14 @@ pub enum Kind {
 }
 
 /// The types of numbers that are computed with.
-#[derive(Clone, Copy, Debug, PartialEq, Eq)]
+#[derive(Clone, Copy, Debug)]
 pub enum Width {
     Int,
     Long,
 }
 
 /// The types of array elements. `baload` and `bastore` take bytes and booleans.
-#[derive(Clone, Copy, Debug, PartialEq, Eq)]
+#[derive(Clone, Copy, Debug)]
 pub enum Element {
     Int,
     Long,
@@ -104,7 +104,7 @@ pub enum Element {
 }
 
 /// The types that an int is narrowed to.
-#[derive(Clone, Copy, Debug, PartialEq, Eq)]
+#[derive(Clone, Copy, Debug)]
 pub enum Small {
     Byte,
     Char,
@@ -112,7 +112,7 @@ pub enum Small {
 }
 
 /// A move of slots at the top of the operand stack, by its opcode.
-#[derive(Clone, Copy, Debug, PartialEq, Eq)]
+#[derive(Clone, Copy, Debug)]
 pub enum Shuffle {
     Pop,
     Pop2,
@@ -126,7 +126,7 @@ pub enum Shuffle {
 }
 
 /// An operation on two numbers.
-#[derive(Clone, Copy, Debug, PartialEq, Eq)]
+#[derive(Clone, Copy, Debug)]
 pub enum Arithmetic {
     Add,
     Subtract,
@@ -136,7 +136,7 @@ pub enum Arithmetic {
 }
 
 /// A shift of the bits of a number. `Right` keeps the sign.
-#[derive(Clone, Copy, Debug, PartialEq, Eq)]
+#[derive(Clone, Copy, Debug)]
 pub enum Shift {
     Left,
     Right,
@@ -144,7 +144,7 @@ pub enum Shift {
 }
 
 /// An operation on the bits of two numbers.
-#[derive(Clone, Copy, Debug, PartialEq, Eq)]
+#[derive(Clone, Copy, Debug)]
 pub enum Logic {
     And,
     Or,
@@ -152,7 +152,7 @@ pub enum Logic {
 }
 
 /// A test of an int against another.
-#[derive(Clone, Copy, Debug, PartialEq, Eq)]
+#[derive(Clone, Copy, Debug)]
 pub enum Test {
     Equal,
     NotEqual,
@@ -163,7 +163,7 @@ pub enum Test {
 }
 
 /// How the method of a call is found.
-#[derive(Clone, Copy, Debug, PartialEq, Eq)]
+#[derive(Clone, Copy, Debug)]
 pub enum Call {
     Virtual,
     Special,

@@ -25,8 +25,3 @@ pub use instr::{Args, Instr, OpFault};
 pub use laws::{cases_rise, instrs_are_determined, instrs_fit, only_outside_is_outside};
 pub use op::Op;
 pub use profile::support;
-
-#[cfg(test)]
-mod test_tables;
-#[cfg(test)]
-mod tests;

@@ -1,14 +1,14 @@
 -- Files and bytes in memory, where some calls are made to fail.
-use Rattle.std.specs.Prelude.{◌+◌, ◌-◌, ◌^◌, ◌==◌, ℕ, List, [], ◌∷◌, ◌++◌, length, take, Option, Some, None, Result, Ok, Err, min, nat_lt, if◌then◌else◌}
+use Rattle.std.specs.Prelude.{◌==◌, ℕ, List, [], ◌∷◌, length, take, Option, Some, None, Result, Ok, Err, nat_lt, if◌then◌else◌}
 use Rattle.std.specs.List.{list_any}
 use Rattle.ports.specs.declared.shelf.Fetch.{Fetch}
 use Rattle.ports.specs.declared.shelf.Fetch.TheVariants.{Failed, TooLong}
-use Rattle.ports.specs.Shelf.{Blamed, ShelfState, bytes_at, longest_file}
+use Rattle.ports.specs.Shelf.{Blamed, ShelfState, bytes_at, longest_file, raised}
 use Rattle.ports.specs.Sink.{SinkState}
 
 -- the number of the call that comes next, counted from 1
 abbrev pub next_call : ℕ → ℕ
-next_call calls = min (calls + 1) (2 ^ 64 - 1)
+next_call calls = raised calls
 
 -- The files as pairs of a path and its bytes, the numbers of the calls that are to fail, how many calls
 -- were made, and the counts.

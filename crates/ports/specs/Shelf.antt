@@ -1,5 +1,5 @@
 -- What a shelf of files means.
-use Rattle.std.specs.Prelude.{◌≡◌, ◌⊎◌, ◌-◌, ◌<◌, ◌≤◌, ◌^◌, ℕ, Bool, List, [], ◌∷◌, length, Option, Some, None, nat_eq, if◌then◌else◌, MatchOption}
+use Rattle.std.specs.Prelude.{◌≡◌, ◌⊎◌, ◌+◌, ◌-◌, ◌<◌, ◌^◌, ℕ, Bool, List, [], ◌∷◌, length, Option, Some, None, nat_eq, if◌then◌else◌, MatchOption, min}
 use lib.Pointwise.{pointwise}
 
 -- a count that never falls, and the path of the last call that raised it
@@ -21,6 +21,10 @@ fresh files = record { files = files; faults = record { count = 0; path = [] }; 
 -- how many bytes a file may have
 abbrev pub longest_file : ℕ
 longest_file = 16777216
+
+-- a count that is raised once, and stays at its type's end
+abbrev pub raised : ℕ → ℕ
+raised count = min (count + 1) (2 ^ 64 - 1)
 
 -- a count rose: one that stands at its type's end counts as risen
 abbrev pub Rises : ℕ → ℕ → Type 0

@@ -1,5 +1,5 @@
 -- What a sink of bytes means.
-use Rattle.std.specs.Prelude.{◌≡◌, ℕ, ◌++◌, List, Option, Some, None}
+use Rattle.std.specs.Prelude.{◌≡◌, ℕ, ◌++◌, List, Option}
 use Rattle.std.specs.Option.{option_map}
 
 -- the bytes that it has, where it tells them, and its count of faults

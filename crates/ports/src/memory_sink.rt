@@ -1,5 +1,5 @@
 ghost use Rattle.std.specs.Prelude.{◌≡◌, ◌≤◌, ◌++◌, [], Some, None, OnOk, IsErrOf};
-ghost use Rattle.ports.specs.Shelf.{Rises};
+ghost use Rattle.ports.specs.Shelf.{Rises, raised};
 ghost use Rattle.ports.specs.Sink.{Appends, AppendsPrefix};
 ghost use Rattle.ports.specs.Memory.{sink_of, taken_at, taken_of, next_call, next_fail};
 
@@ -8,7 +8,7 @@ use std::alloc::Global;
 use std::marker::Model;
 
 /// Bytes in memory, where some calls fail.
-#[derive(Debug, Drop)]
+#[derive(Drop)]
 pub struct MemorySink {
     bytes: Vec<u8>,
     fails: Vec<(u64, u32)>,
@@ -83,6 +83,8 @@ impl Sink for MemorySink {
         ensures none_fails { OnOk result (next_fail self.old ≡ None) }
         ensures taken { IsErrOf result Put.Failed → self.new.bytes ≡ self.old.bytes ++ taken_of (next_fail self.old) piece.now }
         ensures is_failed { IsErrOf result Put.Failed → next_fail self.old ≡ None → ⊥ }
+        ensures one_fault { IsErrOf result Put.Failed → self.new.faults ≡ raised self.old.faults }
+        ensures only_failed { (IsErrOf result Put.Failed → ⊥) → self.new.faults ≡ self.old.faults }
     {
         self.calls = self.calls.saturating_add(1);
         match taken_at(&self.fails, self.calls) {
@@ -97,30 +99,5 @@ impl Sink for MemorySink {
                 Err(Put::Failed)
             }
         }
-    }
-}
-
-#[cfg(test)]
-mod tests {
-    use super::*;
-    use std::test::Fail;
-
-    #[test]
-    fn fronts(rt: HostRuntime) -> Result<(), Fail> {
-        let piece = b"bound 4\n".as_slice();
-        for taken in 0..10 {
-            let mut sink = MemorySink::new(rt.alloc(), vec![in rt.alloc(); (2, taken)]?);
-            assert!(rt; sink.put(b"> ").is_ok());
-            assert_eq!(rt; sink.put(piece).err(), Some(Put::Failed));
-            assert_eq!(rt; sink.faults(), 1);
-            let front = piece.len().min(taken as usize);
-            assert_eq!(rt; sink.bytes().len(), 2 + front);
-            assert_eq!(rt; &sink.bytes()[..2], b"> ".as_slice());
-            assert_eq!(rt; &sink.bytes()[2..], &piece[..front]);
-            assert!(rt; sink.put(b"!").is_ok());
-            assert_eq!(rt; sink.faults(), 1);
-            assert_eq!(rt; sink.bytes().len(), 3 + front);
-        }
-        Ok(())
     }
 }

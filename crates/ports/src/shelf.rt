@@ -1,5 +1,5 @@
 ghost use Rattle.std.specs.Prelude.{◌≡◌, ◌≤◌, [], length, IfOk, IsErrOf};
-ghost use Rattle.ports.specs.Shelf.{ShelfState, Holds, Blames, HoldsLonger, longest_file};
+ghost use Rattle.ports.specs.Shelf.{ShelfState, Holds, Blames, HoldsLonger, longest_file, raised};
 ghost use Rattle.ports.specs.declared.shelf.Fetch.TheVariants.{Memory};
 
 use std::alloc::{AllocError, AllocFailed, Global};
@@ -9,7 +9,7 @@ use std::marker::Model;
 pub const LONGEST_FILE: usize = 16_777_216;
 
 /// Why a file was not fetched.
-#[derive(Clone, Copy, Debug, PartialEq, Eq)]
+#[derive(Clone, Copy)]
 pub enum Fetch {
     /// The outside failed.
     Failed,
@@ -36,7 +36,7 @@ impl<T: Drop> From<AllocFailed<T>> for Fetch {
 }
 
 /// A count that never falls, and the path of the last call that raised it.
-#[derive(Debug, Drop)]
+#[derive(Drop)]
 pub struct Blame {
     count: u64,
     path: Vec<u8>,
@@ -76,8 +76,10 @@ impl Blame {
         self.path.as_slice()
     }
 
-    /// Counts once more, at this path.
+    /// Counts once more, at this path. A count at `u64::MAX` stays.
     pub fn raise(&mut self, path: Vec<u8>)
+        ensures count { self.new.count ≡ raised self.old.count }
+        ensures path { self.new.path ≡ path.items }
         ensures blames { Blames self.old self.new path.items }
         ensures grows { self.old.count ≤ self.new.count }
     {

@@ -6,7 +6,7 @@ ghost use Rattle.ports.specs.declared.sink.Put.TheVariants.{Memory};
 use std::alloc::{AllocError, AllocFailed};
 
 /// Why a piece was not put.
-#[derive(Clone, Copy, Debug, PartialEq, Eq)]
+#[derive(Clone, Copy)]
 pub enum Put {
     /// The outside failed, perhaps after it took the front of the piece.
     Failed,

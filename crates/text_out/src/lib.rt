@@ -5,6 +5,3 @@ mod line;
 mod names;
 
 pub use line::Line;
-
-#[cfg(test)]
-mod tests;

@@ -9,7 +9,7 @@ use std::alloc::{AllocError, Global};
 use std::marker::Model;
 
 /// Bytes that grow at their end. What finds no memory leaves them as they were.
-#[derive(Debug, Drop)]
+#[derive(Drop)]
 pub struct Line {
     alloc: Global,
     bytes: Vec<u8>,

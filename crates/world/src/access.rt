@@ -9,7 +9,7 @@ const ACC_PRIVATE: u16 = 0x0002;
 const ACCESS: u16 = 0x0008;
 
 /// Which methods are asked for.
-#[derive(Clone, Copy, Debug, PartialEq, Eq)]
+#[derive(Clone, Copy)]
 pub(crate) enum MethodKind {
     Any,
     /// For its package alone.

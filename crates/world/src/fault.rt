@@ -4,7 +4,7 @@ ghost use Rattle.world.specs.declared.fault.ResolveFault.TheVariants as resolve;
 use std::alloc::{AllocError, AllocFailed};
 
 /// Why a name means no member, or a call no method. Of several the first in this order is answered.
-#[derive(Clone, Copy, Debug, PartialEq, Eq)]
+#[derive(Clone, Copy, PartialEq, Eq)]
 pub enum ResolveFault {
     /// There is no class of the name.
     MissingClass,

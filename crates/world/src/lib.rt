@@ -16,6 +16,3 @@ mod world;
 pub use fault::ResolveFault;
 pub use member::MemberId;
 pub use world::World;
-
-#[cfg(test)]
-mod tests;

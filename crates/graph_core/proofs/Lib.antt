@@ -8,9 +8,6 @@ pub mod Turns
 pub mod Marks
 pub mod LoopLaws
 pub mod Reach
-pub mod Spreads
-pub mod Chains
-pub mod AvoidLaws
 pub mod Rounds
 pub mod Gatherings
 pub mod MarkedLists

@@ -7,7 +7,7 @@ use Rattle.std.proofs.lemmas.List.Sums.{sum_by-set}
 use Rattle.std.proofs.lemmas.List.Elements.{Contains-get_or, Contains-append_left, Contains-append_right, Contains-append_cases}
 use Rattle.graph_core.specs.Graphs.{HasEdge, successors_of}
 use Rattle.graph_core.specs.Paths.{Reaches}
-use Rattle.graph_core.specs.Body.{IsMarked}
+use Rattle.graph_core.specs.Marked.{IsMarked}
 use Rattle.graph_core.specs.Leaving.{IsLeftAt, IsWaitingAt, IsRound, IsEntered, IsMoreFrom, IsReaching, IsLeaving, round_left}
 use Rattle.graph_core.proofs.Lists.{Contains-head}
 use Rattle.graph_core.proofs.Reach.{Reaches-itself, Reaches-before, Reaches-through}

@@ -1,10 +1,11 @@
 -- a row of successors stays in rising order as a node is inserted
-use Rattle.std.proofs.Common.{◌≡◌, ◌≢◌, ◌⊎◌, ◌↔◌, ℕ, ◌+◌, ◌-◌, ◌<◌, ◌≤◌, List, [], ◌∷◌, ◌++◌, length, get_or, take, drop, set, replicate, All, Contains, Err, sym, ◌∙◌, inl, inr, ⊎_elim, subst, arith, length-append, length-take, length-drop, get_or-set_same, get_or-set_other}
+use Rattle.std.proofs.Common.{refl, Bool, IsTrue, Result, Ok, ◌≡◌, ◌≢◌, ◌⊎◌, ◌↔◌, ℕ, ◌+◌, ◌-◌, ◌<◌, ◌≤◌, List, [], ◌∷◌, ◌++◌, length, get_or, take, drop, set, replicate, All, Contains, Err, sym, ◌∙◌, inl, inr, ⊎_elim, subst, arith, length-append, length-take, length-drop, get_or-set_same, get_or-set_other}
 use Rattle.std.specs.List.{insert}
 use Rattle.std.specs.List.Sorted.{IsBinarySearchResult}
 use Rattle.std.specs.Ordering.{nat_cmp}
 use Rattle.std.proofs.lemmas.List.Sorted.{searched}
-use Rattle.std.proofs.lemmas.Bool.{cases_order, cases_eq, cases_lt}
+use Rattle.std.proofs.lemmas.Bool.{cases_order, cases_eq, cases_lt, false≢true}
+use Rattle.std.specs.Result.{is_ok}
 use Rattle.std.proofs.lemmas.List.{take-append-drop, length-set, length-replicate, set-get_or, get_or_default, get_or-replicate, get_or_past}
 use Rattle.std.proofs.lemmas.List.Edits.{get_or-insert_below, get_or-insert_at, get_or-insert_above}
 use Rattle.std.proofs.lemmas.List.Elements.{Contains-append_left, Contains-append_right, Contains-append_cases, Contains-get_or}
@@ -139,3 +140,21 @@ insertion_place xs ys x i e h rising =
 
 pub no_edges : (n : ℕ) (g : List (List ℕ)) → g ≡ replicate n [] → (a b : ℕ) → HasEdge g a b → ⊥
 no_edges n g e a b h = no_edge n a b (cases_lt a n) (subst (λ (ys : List (List ℕ)). HasEdge ys a b) e h)
+
+-- whether a search found something
+searched_in : (xs : List ℕ) (x : ℕ) (r : Result ℕ ℕ) → IsBinarySearchResult (λ y. nat_cmp y x) xs r → IsRising xs → IsTrue (is_ok r) ↔ Contains xs x
+searched_in xs x (Ok i) h rising =
+    let at = searched xs x (Ok i) h (IsRising-le xs rising) in
+    (λ t. (i, at.0, get_or_default xs i x 0 at.0 ∙ at.1), λ c. refl)
+searched_in xs x (Err i) h rising =
+    let at = searched xs x (Err i) h (IsRising-le xs rising) in
+    (λ t. absurd (false≢true t), λ c. absurd (outside c.0 c.1 (get_or_default xs c.0 0 x c.1 ∙ c.2) at.1 at.2 (cases_lt c.0 i)))
+  where
+    outside : (k : ℕ) → k < length xs → get_or xs k 0 ≡ x → ((j : ℕ) → j < i → get_or xs j 0 < x) → ((j : ℕ) → i ≤ j → j < length xs → x < get_or xs j 0) → (k < i) ⊎ (i ≤ k) → ⊥
+    outside k l e low high (inl m) = let a = low k m in omega arith
+    outside k l e low high (inr m) = let a = high k m l in omega arith
+
+pub found_in : (xs ys zs : List ℕ) (x : ℕ) (r : Result ℕ ℕ) (b : Bool) → ys ≡ xs → xs ≡ zs → IsBinarySearchResult (λ y. nat_cmp y x) ys r → IsRising xs → b ≡ is_ok r → IsTrue b ↔ Contains zs x
+found_in xs ys zs x r b e z h rising s =
+    let at = searched_in xs x r (subst (λ (ws : List ℕ). IsBinarySearchResult (λ y. nat_cmp y x) ws r) e h) rising in
+    subst (λ (ws : List ℕ). IsTrue b ↔ Contains ws x) z (subst (λ (t : Bool). IsTrue t ↔ Contains xs x) (sym s) at)

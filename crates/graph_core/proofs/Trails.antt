@@ -4,7 +4,7 @@ use Rattle.std.specs.Prelude.{is_some}
 use Rattle.std.proofs.lemmas.Bool.{cases_order, cases_eq, cases_lt}
 use Rattle.graph_core.specs.Graphs.{HasEdge}
 use Rattle.graph_core.specs.Paths.{Leads, IsWithoutRepeat, IsNotAfter, IsFirstPath, LiesOnFirstPath, Reaches}
-use Rattle.graph_core.specs.Search.{Found, node_at, parent_at, last_at, number_of, IsSearch}
+use Rattle.graph_core.specs.Search.{Found, node_at, parent_at, last_at, number_of, IsTold, IsToldOn, IsSearchTree, IsSearch}
 use Rattle.graph_core.proofs.Lists.{Contains-cons_cases, Contains-tail, Contains-head, Contains-nil}
 use Rattle.graph_core.proofs.Orders.{first_path_one}
 
@@ -13,7 +13,7 @@ abbrev pub Trail : Found → ℕ → List ℕ → ℕ → Type 0
 Trail f j [] k = j ≡ k
 Trail f j (i ∷ ks) k = (0 < i) × (i < length f.order) × (parent_at f i ≡ j) × Trail f i ks k
 
-module _ (g : List (List ℕ)) (root : ℕ) (f : Found) (s : IsSearch g root f) where
+module _ (g : List (List ℕ)) (root : ℕ) (f : Found) (s : IsSearchTree g root f) where
   same_number : (v k m : ℕ) → number_of f v ≡ Some k → number_of f v ≡ Some m → k ≡ m
   same_number v k m h i = let e : Some k ≡ Some m = sym h ∙ i in cc
 
@@ -170,21 +170,46 @@ module _ (g : List (List ℕ)) (root : ℕ) (f : Found) (s : IsSearch g root f) 
       let e : last_at f there.0 ≡ last_at f m = ap (last_at f) a in
       (omega arith, omega arith)
 
-  -- whether h lies on the first path to v, by numbers
-  pub lies_by : (h v m k : ℕ) (r : Bool) → number_of f h ≡ Some m → number_of f v ≡ Some k → (IsTrue r ↔ ((m ≤ k) × (k ≤ last_at f m))) → IsTrue r ↔ LiesOnFirstPath g root h v
-  lies_by h v m k r p n e =
-      (λ t. let b = e.0 t in lies_to h v m k p n b.0 b.1, λ on. e.1 (between_is h v m k p n on))
+  pub IsSearch-tree : IsSearch g root f
+  IsSearch-tree =
+      record {
+        count = s.numbered.number_count;
+        fits = λ v k h. let l = (s.numbered.named v k h).0 in let n = s.numbered.last_count in omega arith;
+        reached = λ v. (λ t. reached_from v t.0 t.1, found_from v);
+        on = λ h v. (λ t. lies_to h v t.0 t.1 t.2 t.3 t.4 t.5, lies_from h v);
+      }
 
-  pub lies_not_above : (h v : ℕ) → number_of f h ≡ None → LiesOnFirstPath g root h v → ⊥
-  lies_not_above h v none on = let there = lies_from h v on in let no : None ≡ Some there.0 = sym none ∙ there.2 in cc
+-- what numbers tell
+module _ (f : Found) where
+  one_number : (v k m : ℕ) → number_of f v ≡ Some k → number_of f v ≡ Some m → k ≡ m
+  one_number v k m h i = let e : Some k ≡ Some m = sym h ∙ i in cc
 
-  pub lies_not_below : (h v : ℕ) → number_of f v ≡ None → LiesOnFirstPath g root h v → ⊥
-  lies_not_below h v none on = let there = lies_from h v on in let no : None ≡ Some there.1 = sym none ∙ there.3 in cc
+  told_between : (h v m k : ℕ) → number_of f h ≡ Some m → number_of f v ≡ Some k → IsToldOn f h v → (m ≤ k) × (k ≤ last_at f m)
+  told_between h v m k p n on =
+      let a = one_number h on.0 m on.2 p in
+      let b = one_number v on.1 k on.3 n in
+      let e : last_at f on.0 ≡ last_at f m = ap (last_at f) a in
+      let x = on.4 in
+      let y = on.5 in
+      (omega arith, omega arith)
 
-  reached_by : (v : ℕ) (o : Option ℕ) → number_of f v ≡ o → IsTrue (is_some o) ↔ Reaches g root v
-  reached_by v None e =
-      (λ t. absurd (cc), λ h. let there = found_from v h in let no : None ≡ Some there.0 = sym e ∙ there.1 in absurd (cc))
-  reached_by v (Some k) e = (λ t. reached_from v k e, λ h. refl)
+  pub told_by : (h v m k : ℕ) (r : Bool) → number_of f h ≡ Some m → number_of f v ≡ Some k → (IsTrue r ↔ ((m ≤ k) × (k ≤ last_at f m))) → IsTrue r ↔ IsToldOn f h v
+  told_by h v m k r p n e =
+      (λ t. let b = e.0 t in (m, k, p, n, b.0, b.1), λ on. e.1 (told_between h v m k p n on))
 
-  pub reached_is : (v : ℕ) → IsTrue (is_some (number_of f v)) ↔ Reaches g root v
-  reached_is v = reached_by v (number_of f v) refl
+  pub told_not_above : (h v : ℕ) → number_of f h ≡ None → IsToldOn f h v → ⊥
+  told_not_above h v none on = let no : None ≡ Some on.0 = sym none ∙ on.2 in cc
+
+  pub told_not_below : (h v : ℕ) → number_of f v ≡ None → IsToldOn f h v → ⊥
+  told_not_below h v none on = let no : None ≡ Some on.1 = sym none ∙ on.3 in cc
+
+  told_some : (v : ℕ) (o : Option ℕ) → number_of f v ≡ o → IsTrue (is_some o) ↔ IsTold f v
+  told_some v None e = (λ t. absurd (cc), λ h. let no : None ≡ Some h.0 = sym e ∙ h.1 in absurd (cc))
+  told_some v (Some k) e = (λ t. (k, e), λ h. refl)
+
+  pub is_told : (v : ℕ) → IsTrue (is_some (number_of f v)) ↔ IsTold f v
+  is_told v = told_some v (number_of f v) refl
+
+-- one equivalence after another
+pub both_ways : {P Q R : Type 0} → P ↔ Q → Q ↔ R → P ↔ R
+both_ways h k = (λ p. k.0 (h.0 p), λ r. h.1 (k.1 r))

@@ -7,7 +7,7 @@ use Rattle.std.proofs.lemmas.List.{length-set, length_push, get_or_append_left, 
 use Rattle.std.proofs.lemmas.List.Sums.{sum_by-set}
 use Rattle.std.proofs.lemmas.List.Elements.{Contains-get_or}
 use Rattle.graph_core.specs.Graphs.{HasEdge, IsRising, EndsAtNodes, successors_of}
-use Rattle.graph_core.specs.Search.{Found, node_at, parent_at, last_at, number_of, IsNumbered, IsInTree, IsLeft, IsSearch}
+use Rattle.graph_core.specs.Search.{Found, node_at, parent_at, last_at, number_of, IsNumbered, IsInTree, IsLeft, IsSearchTree}
 use Rattle.graph_core.specs.Walk.{found_more, left_at, unfound, IsWalk, looks_left, steps_left}
 
 -- a look at a successor more
@@ -314,7 +314,7 @@ module _ (g : List (List ℕ)) (f : Found) (nexts : List ℕ) (here : ℕ) (w : 
       (omega arith, e)
 
   -- where the root is left, the search is done
-  pub IsSearch-end : (root : ℕ) → here ≡ 0 → root ≡ node_at f 0 → IsSearch g root (left_at f here)
+  pub IsSearch-end : (root : ℕ) → here ≡ 0 → root ≡ node_at f 0 → IsSearchTree g root (left_at f here)
   IsSearch-end root e r =
       record {
         first = sym r;

@@ -1,7 +1,7 @@
 use Rattle.std.specs.Prelude.{◌≡◌, ◌≢◌, ◌⊎◌, ℕ, ◌+◌, ◌*◌, ◌<◌, ◌≤◌, Bool, false, true, not, List, [], ◌∷◌, ◌++◌, length, Contains, count_by, slice_index, slice_index_or, slice_set}
 use Rattle.graph_core.specs.Graphs.{HasEdge, successors_of}
 use Rattle.graph_core.specs.Paths.{Reaches}
-use Rattle.graph_core.specs.Body.{IsMarked}
+use Rattle.graph_core.specs.Marked.{IsMarked}
 use Rattle.graph_core.specs.Walk.{looks_left}
 
 -- When the node at place i was left, it reached all that had been left since it was found, and no edge

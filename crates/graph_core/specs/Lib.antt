@@ -1,3 +1,4 @@
+pub mod Marked
 pub mod Graphs
 pub mod Paths
 pub mod Search
@@ -6,9 +7,6 @@ pub mod Loops
 pub mod Body
 pub mod Nests
 pub mod Components
-pub mod Distances
-pub mod Cycles
-pub mod Covers
 pub mod Leaving
 pub mod Numbers
 pub mod Gathered

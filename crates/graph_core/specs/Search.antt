@@ -1,5 +1,6 @@
-use Rattle.std.specs.Prelude.{◌≡◌, ℕ, ◌<◌, ◌≤◌, Option, Some, None, List, length, slice_index, slice_index_or}
+use Rattle.std.specs.Prelude.{◌≡◌, ◌↔◌, ℕ, ◌<◌, ◌≤◌, Option, Some, None, List, length, slice_index, slice_index_or}
 use Rattle.graph_core.specs.Graphs.{HasEdge}
+use Rattle.graph_core.specs.Paths.{Reaches, LiesOnFirstPath}
 
 -- What a depth first search has found (Tarjan 1972): the nodes in the order in which they were found,
 -- which numbers them from 0; for each number that of the node from which it was found, and the last
@@ -51,8 +52,25 @@ abbrev pub IsLeft : List (List ℕ) → Found → ℕ → Type 0
 IsLeft g f k = (s : ℕ) → HasEdge g (node_at f k) s → IsFoundBy f s (last_at f k)
 
 -- A search from the root that is done.
-pub record IsSearch (g : List (List ℕ)) (root : ℕ) (f : Found) : Type 0 where
+pub record IsSearchTree (g : List (List ℕ)) (root : ℕ) (f : Found) : Type 0 where
   pub first : node_at f 0 ≡ root
   pub numbered : IsNumbered g f
   pub tree : (k : ℕ) → k < length f.order → IsInTree g f k
   pub left : (k : ℕ) → k < length f.order → IsLeft g f k
+
+-- the search has found the node
+abbrev pub IsTold : Found → ℕ → Type 0
+IsTold f v = (k : ℕ) × (number_of f v ≡ Some k)
+
+-- it has found v from h, or from what was found from h
+abbrev pub IsToldOn : Found → ℕ → ℕ → Type 0
+IsToldOn f h v =
+    (m : ℕ) × (k : ℕ) × (number_of f h ≡ Some m) × (number_of f v ≡ Some k) × (m ≤ k) × (k ≤ last_at f m)
+
+-- What a search from the root tells of paths: which nodes the root reaches, and which of them lie on the
+-- first path to a node.
+pub record IsSearch (g : List (List ℕ)) (root : ℕ) (f : Found) : Type 0 where
+  pub count : length f.numbers ≡ length g
+  pub fits : (v k : ℕ) → number_of f v ≡ Some k → k < length f.lasts
+  pub reached : (v : ℕ) → IsTold f v ↔ Reaches g root v
+  pub on : (h v : ℕ) → IsToldOn f h v ↔ LiesOnFirstPath g root h v

@@ -1,4 +1,5 @@
 ghost use Rattle.std.specs.Prelude.{◌≡◌, ◌<◌, length, slice_index};
+ghost use Rattle.graph_core.specs.Numbers.{AreCounted};
 
 use std::marker::Model;
 
@@ -6,17 +7,28 @@ use std::marker::Model;
 #[derive(Drop)]
 pub struct Components {
     pub(crate) numbers: Vec<u32>,
+    pub(crate) count: u32,
 }
 
 impl Model for Components {
     ghost use Rattle.std.specs.Prelude.{List, ℕ};
+    ghost use Rattle.graph_core.specs.Numbers.{AreCounted};
 
     ghost Value = { List ℕ };
 
     ghost view = { λ components. components.numbers.items };
+
+    ghost invariant = { λ components. AreCounted components.numbers.items components.count };
 }
 
 impl Components {
+    /// How many components there are.
+    pub fn count(&self) -> u32
+        ensures { AreCounted self.now result }
+    {
+        self.count
+    }
+
     /// The number of a node's component.
     pub fn of(&self, node: u32) -> u32
         requires { node < length self.now }

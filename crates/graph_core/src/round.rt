@@ -1,7 +1,7 @@
 ghost use Rattle.std.specs.Prelude.{◌≡◌, ◌<◌, ◌≤◌, ◌++◌, ◌∷◌, [], ℕ, List, length, slice_index, IfOk, OnOk};
 ghost use Rattle.graph_core.specs.Graphs.{successors_of};
 ghost use Rattle.graph_core.specs.Paths.{Reaches};
-ghost use Rattle.graph_core.specs.Body.{IsMarked};
+ghost use Rattle.graph_core.specs.Marked.{IsMarked};
 ghost use Rattle.graph_core.specs.Leaving.{IsRound, IsEntered, IsMoreFrom, IsReaching, IsLeaving, round_left};
 
 use crate::graph::Graph;

@@ -1,4 +1,4 @@
-ghost use Rattle.std.specs.Prelude.{◌≡◌, ◌⊎◌, ◌↔◌, ℕ, [], Contains, OnOk, OnErr};
+ghost use Rattle.std.specs.Prelude.{◌≡◌, ◌<◌, ◌⊎◌, ◌↔◌, ℕ, [], All, Contains, OnOk, OnErr, IsTrue};
 ghost use Rattle.graph_core.specs.Graphs.{IsRising};
 
 use std::alloc::{AllocError, Global};
@@ -39,8 +39,38 @@ impl Row {
         self.nodes.as_slice()
     }
 
-    /// Adds a node, unless it is there. An `Err` changes nothing.
+    /// Whether a node is among them.
+    pub fn has(&self, node: u32) -> bool
+        ensures { IsTrue result ↔ Contains self.now node }
+    {
+        self.nodes.binary_search(&node).is_ok()
+    }
+
+    /// Whether a node is higher than all of them.
+    fn is_below(&self, node: u32) -> bool
+        ensures { IsTrue result ↔ All (λ x. x < node) self.now }
+    {
+        match self.nodes.last() {
+            None => true,
+            Some(last) => *last < node,
+        }
+    }
+
+    /// Adds a node, unless it is there. An `Err` changes nothing. A node that is higher than all others
+    /// is added without a search.
     pub fn add(&mut self, node: u32) -> Result<(), AllocError>
+        ensures added { OnOk result ((x : ℕ) → Contains self.new x ↔ (Contains self.old x ⊎ (x ≡ node))) }
+        ensures err { OnErr result (self.new ≡ self.old) }
+    {
+        if self.is_below(node) {
+            self.nodes.push(node)?;
+            return Ok(());
+        }
+        self.put(node)
+    }
+
+    /// Puts a node at its place, unless it is there. An `Err` changes nothing.
+    fn put(&mut self, node: u32) -> Result<(), AllocError>
         ensures added { OnOk result ((x : ℕ) → Contains self.new x ↔ (Contains self.old x ⊎ (x ≡ node))) }
         ensures err { OnErr result (self.new ≡ self.old) }
     {

@@ -1,6 +1,6 @@
 ghost use Rattle.std.specs.Prelude.{◌≡◌, ◌<◌, ◌≤◌, ◌^◌, length, slice_index, IfOk, OnOk, MatchBool};
 ghost use Rattle.graph_core.specs.Graphs.{successors_of};
-ghost use Rattle.graph_core.specs.Search.{IsSearch, node_at};
+ghost use Rattle.graph_core.specs.Search.{IsSearch, IsSearchTree, node_at};
 ghost use Rattle.graph_core.specs.Walk.{IsWalk, looks_left, steps_left};
 
 use crate::graph::Graph;
@@ -63,7 +63,7 @@ fn step(g: &Graph, walk: &mut Walk) -> Result<bool, AllocError>
     requires walk { IsWalk g.now walk.old.paths walk.old.nexts.items walk.old.here }
     ensures walk { IfOk result (λ more. MatchBool more
         (IsWalk g.now walk.new.paths walk.new.nexts.items walk.new.here)
-        (IsSearch g.now (node_at walk.old.paths 0) walk.new.paths)) }
+        (IsSearchTree g.now (node_at walk.old.paths 0) walk.new.paths)) }
     ensures root { IfOk result (λ more. node_at walk.new.paths 0 ≡ node_at walk.old.paths 0) }
     ensures falls { IfOk result (λ more. MatchBool more
         (steps_left g.now walk.new.nexts.items walk.new.here < steps_left g.now walk.old.nexts.items walk.old.here)

@@ -10,7 +10,7 @@ use Rattle.std.proofs.Math.ListN.{drop_of_length-le}
 use Rattle.graph_core.specs.Graphs.{HasEdge, EndsAtNodes}
 use Rattle.graph_core.specs.Paths.{Leads, IsWithoutRepeat, IsPath, IsNotAfter, IsFirstPath, Reaches}
 use Rattle.graph_core.specs.Loops.{IsBelow, LoopsBack, IsInLoop}
-use Rattle.graph_core.specs.Body.{IsMarked}
+use Rattle.graph_core.specs.Marked.{IsMarked}
 use Rattle.graph_core.specs.Nests.{MarksLoop}
 use Rattle.graph_core.proofs.Orders.{first_path_one}
 use Rattle.graph_core.proofs.Reach.{leads_within}

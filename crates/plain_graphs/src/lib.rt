@@ -10,6 +10,3 @@ mod trunks;
 
 pub use covering::covers;
 pub use looping::{first_path, nest};
-
-#[cfg(test)]
-mod tests;

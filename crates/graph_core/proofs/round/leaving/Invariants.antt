@@ -1,5 +1,5 @@
 use Rattle.std.proofs.Common.{ℕ, ◌≡◌, ◌<◌, []}
-use Rattle.graph_core.specs.Body.{IsMarked}
+use Rattle.graph_core.specs.Marked.{IsMarked}
 use Rattle.graph_core.specs.Leaving.{IsRound}
 use Rattle.graph_core.proofs.round.leaving.Given as goal
 

@@ -1,12 +1,12 @@
 use Rattle.std.proofs.Common.{◌∙◌, ap, refl, subst, sym}
-use Rattle.graph_core.specs.Search.{Found, IsSearch, node_at, parent_at}
+use Rattle.graph_core.specs.Search.{Found, IsSearchTree, node_at, parent_at}
 use Rattle.graph_core.proofs.Walks.{IsSearch-end, IsWalk-up, none_left, IsWalk-moved}
 use Rattle.graph_core.proofs.walk.step.Goals as goal
 
 pub returns-then-walk-eq0-clause-walk : goal.returns-then-walk-eq0-clause-walk
 returns-then-walk-eq0-clause-walk c =
     let all = none_left _ _ _ _ c.requires.walk _ _ _ c.node-node.ensures c.index.ensures c.successors.ensures.value c.if-index-successors.false in
-    subst (IsSearch c.args.g.now (node_at c.args.walk.now.paths 0)) (sym c.leave.ensures) (IsSearch-end _ _ _ _ c.requires.walk all _ c.if-walk-eq0.true refl)
+    subst (IsSearchTree c.args.g.now (node_at c.args.walk.now.paths 0)) (sym c.leave.ensures) (IsSearch-end _ _ _ _ c.requires.walk all _ c.if-walk-eq0.true refl)
 
 pub returns-clause-walk : goal.returns-clause-walk
 returns-clause-walk c =

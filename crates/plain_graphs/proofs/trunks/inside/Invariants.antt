@@ -1,5 +1,5 @@
 use Rattle.std.proofs.Common.{ℕ, ◌<◌, ◌≡◌, ◌↔◌, length}
-use Rattle.graph_core.specs.Body.{IsMarked}
+use Rattle.graph_core.specs.Marked.{IsMarked}
 use Rattle.graph_core.specs.Loops.{IsInLoop}
 use Rattle.plain_graphs.proofs.trunks.inside.Given as goal
 

@@ -1,0 +1,5 @@
+pub mod Spreads
+pub mod Chains
+pub mod AvoidLaws
+pub mod Namings
+pub mod Opens

@@ -1,0 +1,5 @@
+pub mod Covers
+pub mod NoCovers
+pub mod Surveys
+pub mod Distances
+pub mod Cycles

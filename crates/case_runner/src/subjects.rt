@@ -41,6 +41,9 @@ pub fn answer(alloc: Global, subject: &str, given: &str, input: &str) -> Result<
     if let Some(text) = class_cases::answer(alloc, subject, given, input)? {
         return Ok(text);
     }
+    if let Some(text) = flow_cases::answer(alloc, subject, given, input)? {
+        return Ok(text);
+    }
     if let Some(text) = machine_cases::answer(alloc, subject, given, input)? {
         return Ok(text);
     }

@@ -41,13 +41,16 @@ pub fn answer(alloc: Global, subject: &str, given: &str, input: &str) -> Result<
     if let Some(text) = class_cases::answer(alloc, subject, given, input)? {
         return Ok(text);
     }
-    if let Some(text) = graph_cases::answer(alloc, subject, given, input)? {
-        return Ok(text);
-    }
     if let Some(text) = machine_cases::answer(alloc, subject, given, input)? {
         return Ok(text);
     }
-    if let Some(text) = number_cases::answer(alloc, subject, input)? {
+    if let Some(text) = number_cases::answer(alloc, subject, given, input)? {
+        return Ok(text);
+    }
+    if let Some(text) = graph_cases::answer(alloc, subject, given, input)? {
+        return Ok(text);
+    }
+    if let Some(text) = flow_cases::answer(alloc, subject, given, input)? {
         return Ok(text);
     }
     Err(CaseError::Malformed("no such subject"))

@@ -1,5 +1,5 @@
 -- which slots edges mark: the problem whose facts are lists, of a length of its own at each point
-use Rattle.std.specs.Prelude.{◌≡◌, ℕ, ◌+◌, ◌<◌, ◌==◌, Bool, true, false, ◌&&◌, Option, Some, None, List, [], ◌∷◌, length, map, slice_get, slice_index_or, option_map, unwrap_or}
+use Rattle.std.specs.Prelude.{◌≡◌, ℕ, ◌<◌, ◌==◌, Bool, ◌&&◌, Option, None, List, [], length, map, slice_get, option_map, unwrap_or}
 use Rattle.std.specs.Option.{ForSome}
 use Rattle.std.specs.List.{list_any, range_with_len}
 use Rattle.flow_cases.specs.declared.edge.Edge.{Edge}

@@ -1,12 +1,10 @@
 -- the laws of the problem of marks
-use Rattle.std.specs.Prelude.{◌≡◌, ◌≢◌, ◌⊎◌, ℕ, ◌+◌, ◌<◌, ◌≤◌, ◌==◌, Bool, true, false, not, ◌&&◌, ◌||◌, IsTrue, Option, Some, None, List, [], ◌∷◌, length, map, All, refl, slice_get, slice_index_or, option_map, unwrap_or}
-use Rattle.std.specs.Option.{ForSome}
+use Rattle.std.specs.Prelude.{◌≡◌, ◌≢◌, ◌⊎◌, ℕ, ◌+◌, ◌<◌, ◌≤◌, ◌==◌, Bool, true, false, ◌&&◌, ◌||◌, Option, Some, None, List, [], ◌∷◌, length, map, All, refl, slice_get, option_map, unwrap_or}
 use Rattle.std.specs.List.{zip, list_all, list_any, range_with_len}
 use Rattle.std.proofs.Common.{zero, suc, cond, ap, sym, subst, ◌∙◌, inl, inr, ⊎_elim, arith}
-use Rattle.std.proofs.lemmas.Bool.{and_parts, and_from, or_left, or_right, cases_lt}
+use Rattle.std.proofs.lemmas.Bool.{and_parts, and_from, or_left, or_right}
 use Rattle.std.proofs.lemmas.List.FromFn.{length-map-range_with_len}
 use Rattle.std.proofs.lemmas.Option.{get_or_from_slice_get}
-use Rattle.std.proofs.lemmas.List.Elements.{All-get_or}
 use Rattle.fix_engine.specs.Order.{Below}
 use Rattle.fix_engine.specs.Problem.{Both}
 use Rattle.fix_engine.specs.Lawful.{IsLawful}

@@ -1,4 +1,5 @@
 ghost use Rattle.std.specs.Prelude.{◌≡◌, ◌<◌, Some, slice_get, length, IfOk};
+ghost use Rattle.std.specs.List.{list_any};
 ghost use Rattle.std.specs.Option.{option_copied};
 ghost use Rattle.flow_cases.specs.Marking.{marks_slot, marked_by};
 
@@ -25,6 +26,14 @@ fn marks_slot(way: &Way, slot: u32, fact: &Slots, also: Option<&Slots>) -> bool
     way.to == slot && fact.is_marked(way.from) && with
 }
 
+/// Whether one of the ways marks this slot.
+fn is_marked_by(ways: &[Way], slot: u32, fact: &Slots, also: Option<&Slots>) -> bool
+    ensures { result
+        ≡ list_any (λ way. marks_slot fact.now (option_copied also.entry) slot way) ways.now }
+{
+    ways.iter().any(|way| marks_slot(way, slot, fact, also))
+}
+
 /// Of so many slots those that the ways mark.
 fn marked_by(
     alloc: Global,
@@ -38,7 +47,7 @@ fn marked_by(
 {
     let mut slots = Vec::new(alloc);
     for slot in 0..width {
-        slots.push(ways.iter().any(|way| marks_slot(way, slot, fact, also)))?;
+        slots.push(is_marked_by(ways, slot, fact, also))?;
     }
     Ok(Slots::of(slots))
 }

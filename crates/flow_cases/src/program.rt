@@ -1,4 +1,4 @@
-ghost use Rattle.std.specs.Prelude.{◌≡◌, ◌<◌, ◌≤◌, ◌^◌, All, length, IfSome, slice_get, Some};
+ghost use Rattle.std.specs.Prelude.{◌≡◌, ◌<◌, ◌≤◌, ◌^◌, All, length, IfSome, slice_get, Some, IsTrue, ◌↔◌};
 ghost use Rattle.flow_cases.specs.Marking.{IsEdge};
 
 use crate::edge::Edge;

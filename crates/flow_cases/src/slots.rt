@@ -1,8 +1,9 @@
-ghost use Rattle.std.specs.Prelude.{◌≡◌, ◌==◌, slice_index_or, false};
+ghost use Rattle.std.specs.Prelude.{◌≡◌, ◌==◌, ◌||◌, slice_index_or, false, map, IfOk};
+ghost use Rattle.std.specs.List.{zip};
 ghost use Rattle.flow_cases.specs.Slots.{is_marked};
 
 use fix_engine::Lattice;
-use std::alloc::AllocError;
+use std::alloc::{AllocError, Global};
 use std::marker::Model;
 
 /// For each slot whether it is marked.
@@ -45,6 +46,22 @@ impl Slots {
     }
 }
 
+/// What is marked in one of two lists.
+fn marked_in_one(alloc: Global, some: &[bool], others: &[bool]) -> Result<Vec<bool>, AllocError>
+    ensures { IfOk result (λ marks. marks.items ≡ map (λ p. p.0 || p.1) (zip some.now others.now)) }
+{
+    let pairs = some.iter().zip(others.iter());
+    pairs.map(|(a, b)| *a || *b).collect(alloc)
+}
+
+/// The slots that are marked in one of two facts.
+fn joined(alloc: Global, some: &Slots, others: &Slots) -> Result<Slots, AllocError>
+    ensures { IfOk result (λ slots. slots ≡ map (λ p. p.0 || p.1) (zip some.now others.now)) }
+{
+    let marks = marked_in_one(alloc, some.as_slice(), others.as_slice())?;
+    Ok(Slots::of(marks))
+}
+
 impl Lattice for Slots {
     ghost use Rattle.flow_cases.specs.Slots.{marks};
 
@@ -59,11 +76,7 @@ impl Lattice for Slots {
         if other.leq(self) {
             return Ok(false);
         }
-        let mut joined = Vec::new(*self.slots.allocator());
-        for (a, b) in self.slots.iter().zip(other.slots.iter()) {
-            joined.push(*a || *b)?;
-        }
-        self.slots = joined;
+        *self = joined(*self.slots.allocator(), self, other)?;
         Ok(true)
     }
 }

@@ -44,7 +44,7 @@ pub fn report(alloc: Global, name: &str, text: &str) -> Result<String, AllocErro
         };
         count = count.wrapping_add(1);
         let found = answer(alloc, subject, given, input)?;
-        if found.as_str() != wanted {
+        if found.as_str().trim() != wanted {
             differing = differing.wrapping_add(1);
             report.push_str(format!(in alloc;
                 "{subject}: {input} => {found}, and not {wanted}\n"

@@ -98,7 +98,7 @@ fn cost_shown(alloc: Global, costs: &Costs, number: u32) -> Result<String, Alloc
 
 /// The cost of the last method, and of the one behind it.
 fn last_shown(alloc: Global, costs: &Costs) -> Result<String, AllocError> {
-    let count = costs.as_slice().len() as u32;
+    let count = u32::try_from(costs.as_slice().len()).unwrap_or(u32::MAX);
     let last = cost_shown(alloc, costs, count.wrapping_sub(1))?;
     let behind = cost_shown(alloc, costs, count)?;
     format!(in alloc; "{last} {behind}")

@@ -29,11 +29,11 @@ pub fn reported(
 ) -> Result<String, CaseError> {
     let status = costa(alloc, words, shelf, &mut out);
     let text = text_of(alloc, out.bytes())?;
-    let (line, end) = match text.as_str().strip_suffix('\n') {
-        Some(line) => (line, ""),
-        None => (text.as_str(), "|"),
-    };
-    Ok(format!(in alloc; "{} {line}{end}", exit_code(&status))?)
+    let code = exit_code(&status);
+    match text.as_str().strip_suffix('\n') {
+        Some(line) => Ok(format!(in alloc; "{code} {line}")?),
+        None => Ok(format!(in alloc; "{code} {}|", text.as_str())?),
+    }
 }
 
 pub fn answer(alloc: Global, given: &str, input: &str) -> Result<String, CaseError> {

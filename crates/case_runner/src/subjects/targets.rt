@@ -27,12 +27,13 @@ fn is_bad_target(fault: &WordFault) -> bool {
 /// What a command says of its target, which is the word.
 fn named_by(alloc: Global, word: &str) -> Result<String, CaseError> {
     let mut words = Vec::new(alloc);
-    for word in ["bound", word, "a"] {
-        words.push(String::from_str(alloc, word)?)?;
-    }
-    match read(alloc, words.as_slice()) {
-        Ok(Command::Bound { target, .. }) => Ok(shown_target(alloc, &target)?),
-        Err(fault) if is_bad_target(&fault) => Ok(String::from_str(alloc, "none")?),
+    words.push(String::from_str(alloc, "bound")?)?;
+    words.push(String::from_str(alloc, word)?)?;
+    words.push(String::from_str(alloc, "a")?)?;
+    let answer = read(alloc, words.as_slice());
+    match &answer {
+        Ok(Command::Bound { target, .. }) => Ok(shown_target(alloc, target)?),
+        Err(fault) if is_bad_target(fault) => Ok(String::from_str(alloc, "none")?),
         _ => Err(CaseError::Malformed("another command or fault")),
     }
 }

@@ -1,8 +1,3 @@
-pub mod Names
-pub mod Types
-pub mod Parameters
-pub mod Describes
-pub mod Ints
 pub mod Keeping
 pub mod Loops
 pub mod Settled

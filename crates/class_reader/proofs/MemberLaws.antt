@@ -15,12 +15,11 @@ use Rattle.class_reader.specs.declared.fault.ClassFault.{ClassFault}
 use Rattle.class_reader.specs.declared.fault.ClassFault.TheVariants.{BadDesc, Repeated}
 use Rattle.class_reader.specs.Met.{Met, Passes, times, pushed, times_at}
 use Rattle.class_reader.specs.Flags.{is_static}
-use Rattle.class_reader.specs.Descriptor.{IsFieldDescriptor}
-use Rattle.class_reader.specs.DescriptorReading.{is_field, describes}
+use Rattle.descriptors.specs.Grammar.{IsFieldDescriptor}
+use Rattle.descriptors.specs.Tests.{is_field, describes}
 use Rattle.class_reader.specs.ClassReading.{fault_if, or_empty, skipped_at, has_code, Head, Members, descriptor_faults, descriptor_at, is_pair, is_repeated, with_member, member_at, field_at, code_given_at, method_at, members_at}
 use Rattle.class_reader.specs.ClassFile.{IsIndex, IsAttribute, HasCode, IsField, IsMethod, AreDistinct, field_pairs, method_pairs}
-use Rattle.class_reader.proofs.Parameters.{type_is_field, field_is_type}
-use Rattle.class_reader.proofs.Describes.{describes_decided}
+use Rattle.descriptors.proofs.Methods.{field_decided, describes_decided}
 use Rattle.class_reader.proofs.MetLaws.{stepped, steps, carried, spanned, starts, joined, middle_of, first_of_two, second_of_two, rewritten, IsReader, took, takes_first, takes_last, num_reader}
 use Rattle.class_reader.proofs.TimesLaws.{ReadsFrom, Chain, many_take, many_again, chain_each, each_chain, counted_made}
 use Rattle.class_reader.proofs.AttributeLaws.{faultless, IsNamed, index_reader, Attributes, attributes_take, attributes_again}
@@ -28,9 +27,6 @@ use Rattle.class_reader.proofs.GivenLaws.{CodeAt, given_code_takes, given_code_a
 use Rattle.class_reader.proofs.DistinctLaws.{Pair, NotAmong, not_among, none_among, AreNew, new_distinct, distinct_new}
 
 -- ---- descriptors
-
-field_decided : (desc : List ℕ) → (is_field desc ≡ true) ↔ IsFieldDescriptor desc
-field_decided desc = (type_is_field desc, field_is_type desc)
 
 -- the index of a text that passes the test
 abbrev IsDescribed : (List ℕ → Bool) → List (Option Constant) → List ℕ → Option (List ℕ) → Type 0

@@ -12,7 +12,7 @@ use Rattle.class_reader.specs.declared.class.Method.{Method}
 use Rattle.class_reader.specs.declared.class.Code.{Code}
 use Rattle.class_reader.specs.declared.class.Handler.{Handler}
 use Rattle.class_reader.specs.Flags.{is_static, is_native, is_abstract}
-use Rattle.class_reader.specs.Descriptor.{IsFieldDescriptor, IsMethodDescriptor}
+use Rattle.descriptors.specs.Grammar.{IsFieldDescriptor, IsMethodDescriptor}
 
 -- the two bytes are an index that names x
 abbrev pub IsIndex : {A : Type 0} → (ℕ → Option A) → List ℕ → A → Type 0

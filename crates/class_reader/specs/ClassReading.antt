@@ -14,7 +14,7 @@ use Rattle.class_reader.specs.declared.fault.ClassFault.{ClassFault}
 use Rattle.class_reader.specs.declared.fault.ClassFault.TheVariants.{Magic, Version, Pool, BadDesc, BadCode, Repeated}
 use Rattle.class_reader.specs.Met.{Met, done, with_faults, behind, ◌>>=◌, num_at, bytes_at, times, pushed, counted_at, times_at}
 use Rattle.class_reader.specs.Flags.{is_static, is_native, is_abstract}
-use Rattle.class_reader.specs.DescriptorReading.{describes, is_field}
+use Rattle.descriptors.specs.Tests.{describes, is_field}
 
 -- ---- magic and versions
 

@@ -1,5 +1,3 @@
-pub mod Descriptor
-pub mod DescriptorReading
 pub mod Flags
 pub mod Faults
 pub mod Met

@@ -4,7 +4,7 @@ use Rattle.class_pool.specs.declared.constant.Constant.{Constant}
 use Rattle.class_reader.specs.declared.declared.MemberKind.{MemberKind}
 use Rattle.class_reader.specs.declared.declared.MemberKind.TheVariants.{Field, Method}
 use Rattle.class_reader.specs.Flags.{is_static}
-use Rattle.class_reader.specs.DescriptorReading.{describes, is_field}
+use Rattle.descriptors.specs.Tests.{describes, is_field}
 use Rattle.class_reader.specs.ClassReading.{Members}
 
 -- the pool of the class, and the names and descriptors of the members before

@@ -11,7 +11,7 @@ use Rattle.std.specs.Borrow.{Bor}
 use Rattle.class_pool.specs.declared.constant.Constant.{Constant}
 use Rattle.class_pool.specs.Pool.{text_of, utf8_at}
 use Rattle.class_reader.specs.declared.texts.TextFacts.{TextFacts}
-use Rattle.class_reader.specs.DescriptorReading.{describes, is_field}
+use Rattle.descriptors.specs.Tests.{describes, is_field}
 use Rattle.class_reader.specs.ClassReading.{Members, or_empty, is_pair}
 
 -- ---- the texts

@@ -9,7 +9,7 @@ use Rattle.class_reader.specs.declared.class.Method.{Method}
 use Rattle.class_reader.specs.declared.class.Code.{Code}
 use Rattle.class_reader.specs.declared.class.Handler.{Handler}
 use Rattle.class_reader.specs.Flags.{is_static, is_native, is_abstract}
-use Rattle.class_reader.specs.Descriptor.{IsFieldDescriptor, IsMethodDescriptor}
+use Rattle.descriptors.specs.Grammar.{IsFieldDescriptor, IsMethodDescriptor}
 use Rattle.class_reader.specs.ClassFile.{AreDistinct, field_pairs, method_pairs}
 
 -- some bytes are the entry (JVMS 4.4)

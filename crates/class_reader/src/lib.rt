@@ -5,7 +5,6 @@ mod attributes;
 mod class;
 mod code;
 mod declared;
-mod descriptor;
 mod fault;
 mod flags;
 mod indices;
@@ -17,8 +16,10 @@ mod reader;
 mod texts;
 
 pub use class::{Class, ClassRecord, Code, Field, Handler, Method};
-pub use descriptor::{int_parameters, is_field_descriptor, is_method_descriptor, one_int_count};
 pub use fault::ClassFault;
-pub use flags::{is_abstract, is_native, is_static};
+pub use flags::{
+    is_abstract, is_final, is_interface, is_native, is_private, is_protected, is_public, is_static,
+    is_synchronized,
+};
 pub use laws::{is_decided, read_is_class};
 pub use reader::read;

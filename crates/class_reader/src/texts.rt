@@ -5,8 +5,8 @@ ghost use Rattle.std.specs.Option.{option_copied};
 ghost use Rattle.class_pool.specs.Pool.{text_of};
 ghost use Rattle.class_reader.specs.TextTable.{facts_of, slot_facts, facts_at, first_in, NotesFirst, HasFirsts, IsTextTable};
 
-use crate::descriptor::{is_described, is_field};
 use class_pool::{Constant, Pool};
+use descriptors::{is_field_descriptor, is_method_descriptor};
 use std::alloc::{AllocError, Global};
 use std::collections::BTreeMap;
 
@@ -28,9 +28,9 @@ fn facts_of(first: usize, text: &[u8]) -> TextFacts
 {
     TextFacts {
         first,
-        is_field: is_field(text),
-        is_method: is_described(false, text),
-        is_static_method: is_described(true, text),
+        is_field: is_field_descriptor(text),
+        is_method: is_method_descriptor(false, text),
+        is_static_method: is_method_descriptor(true, text),
     }
 }
 

@@ -1,4 +1,3 @@
-pub mod Types
 pub mod Cuts
 pub mod Prefixes
 pub mod Names

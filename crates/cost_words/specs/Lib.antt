@@ -1,4 +1,3 @@
 pub mod Reading
-pub mod Descriptor
 pub mod Target
 pub mod Grammar

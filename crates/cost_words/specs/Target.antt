@@ -2,7 +2,7 @@
 use Rattle.std.specs.Prelude.{ℕ, ◌+◌, ◌*◌, ◌-◌, ◌==◌, ◌&&◌, ◌||◌, Bool, true, false, List, [], ◌∷◌, Option, Some, None, nat_le, if◌then◌else◌}
 use Rattle.std.specs.Option.{option_map, option_and_then}
 use Rattle.class_pool.specs.declared.target.Target.{Target}
-use Rattle.cost_words.specs.Descriptor.{is_method_text}
+use Rattle.descriptors.specs.Tests.{is_method_text}
 
 abbrev pub is_empty : List ℕ → Bool
 is_empty [] = true

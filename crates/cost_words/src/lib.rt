@@ -3,7 +3,6 @@
 
 mod command;
 mod commands;
-mod descriptor;
 mod fault;
 mod number;
 mod options;
@@ -14,6 +13,5 @@ mod word;
 
 pub use command::{Command, Cost, PathWord};
 pub use commands::read;
-pub use descriptor::is_method_text;
 pub use fault::{WordFault, WordKind};
 pub use word::Word;

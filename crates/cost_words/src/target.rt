@@ -2,8 +2,8 @@ ghost use Rattle.std.specs.Prelude.{◌≡◌, ◌<◌, ◌+◌, ◌==◌, lengt
 ghost use Rattle.std.specs.List.{starts_with};
 ghost use Rattle.cost_words.specs.Target.{at_dot, at_colon, hex_value, hex_byte, first_byte, name_of, parts_of, target_from, target_of};
 
-use crate::descriptor::is_described;
 use class_pool::{Target, Text};
+use descriptors::is_method_text;
 use std::alloc::{AllocError, Global};
 
 /// The three parts of a target, as they stand in a word.
@@ -153,7 +153,7 @@ fn target_from(alloc: Global, parts: Parts<'_>) -> Result<Option<Target>, AllocE
     let Some(desc) = name_of(alloc, parts.desc)? else {
         return Ok(None);
     };
-    if !is_described(desc.as_slice()) {
+    if !is_method_text(desc.as_slice()) {
         return Ok(None);
     }
     Ok(Some(target_with(alloc, class.as_slice(), method.as_slice(), desc.as_slice())?))

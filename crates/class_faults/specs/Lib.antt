@@ -1,0 +1,4 @@
+pub mod Pieces
+pub mod PoolFaults
+pub mod Parts
+pub mod Faults

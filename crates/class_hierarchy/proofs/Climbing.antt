@@ -20,7 +20,7 @@ use Rattle.class_hierarchy.proofs.Exploring.{leads_on}
 
 -- ---- all above what is above stands above
 
-in_above : (w : World) → IsWellBuilt w → (d c i : ℕ) → list_any (nat_eq i) (interfaces w c) ≡ true → list_any (nat_eq d) (with_above w i) ≡ true → list_any (nat_eq d) (above w c) ≡ true
+pub in_above : (w : World) → IsWellBuilt w → (d c i : ℕ) → list_any (nat_eq i) (interfaces w c) ≡ true → list_any (nat_eq d) (with_above w i) ≡ true → list_any (nat_eq d) (above w c) ≡ true
 in_above w built d c i step h = rw (above_whole w built c) (flat_listed d (with_above w) (interfaces w c) i step h)
 
 above_on_by : (w : World) → IsWellBuilt w → (n i c d : ℕ) → list_any (nat_eq c) (above_by w n i) ≡ true → list_any (nat_eq d) (above w c) ≡ true → list_any (nat_eq d) (above w i) ≡ true

@@ -12,3 +12,4 @@ pub mod Names
 pub mod Ranking
 pub mod Ordering
 pub mod Climbing
+pub mod Instances

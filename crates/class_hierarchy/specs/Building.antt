@@ -5,7 +5,7 @@ use Rattle.std.specs.List.{list_any}
 use Rattle.class_reader.specs.declared.class.ClassRecord.{ClassRecord}
 use Rattle.class_hierarchy.specs.declared.fault.WorldFault.{WorldFault}
 use Rattle.class_hierarchy.specs.declared.fault.WorldFault.TheVariants.{Twice, MissingSuper, WrongSuper, SuperCycle, FinalSuper}
-use Rattle.class_hierarchy.specs.Access.{is_interface, is_final}
+use Rattle.class_reader.specs.Flags.{is_interface, is_final}
 use Rattle.class_hierarchy.specs.World.{World, class_at, number_of, superclass, interfaces}
 
 -- the first answer for the n numbers from c on

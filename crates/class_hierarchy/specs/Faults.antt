@@ -5,7 +5,7 @@ use Rattle.class_reader.specs.declared.class.ClassRecord.{ClassRecord}
 use Rattle.class_hierarchy.specs.declared.fault.WorldFault.{WorldFault}
 use Rattle.class_hierarchy.specs.declared.build.FaultKind.{FaultKind}
 use Rattle.class_hierarchy.specs.declared.build.FaultKind.TheVariants.{Twice, MissingSuper, WrongSuper, FinalSuper}
-use Rattle.class_hierarchy.specs.Access.{is_final}
+use Rattle.class_reader.specs.Flags.{is_final}
 use Rattle.class_hierarchy.specs.World.{World}
 use Rattle.class_hierarchy.specs.Building.{has_flags, twice, missing_super, wrong_super, final_super}
 

@@ -1,4 +1,3 @@
-pub mod Access
 pub mod World
 pub mod Building
 pub mod Tables
@@ -6,3 +5,4 @@ pub mod Faults
 pub mod Names
 pub mod Ranks
 pub mod Orders
+pub mod Instances

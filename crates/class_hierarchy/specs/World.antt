@@ -5,8 +5,7 @@ use Rattle.std.specs.List.{list_any, position, filter_map, flat_map}
 use Rattle.std.specs.Str.{bytes_eq}
 use Rattle.class_reader.specs.declared.class.ClassRecord.{ClassRecord}
 use Rattle.class_reader.specs.declared.class.Method.{Method}
-use Rattle.class_reader.specs.Flags.{is_abstract}
-use Rattle.class_hierarchy.specs.Access.{is_interface}
+use Rattle.class_reader.specs.Flags.{is_abstract, is_interface}
 
 -- A class is numbered by its place.
 abbrev pub World : Type 0

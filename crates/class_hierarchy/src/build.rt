@@ -4,13 +4,12 @@ ghost use Rattle.std.specs.Prelude.{◌≡◌, ◌≢◌, ℕ, ◌<◌, ◌^◌,
 ghost use Rattle.std.specs.Option.{option_copied, option_to_list};
 ghost use Rattle.class_hierarchy.specs.declared.fault.WorldFault.TheVariants.{Memory};
 ghost use Rattle.class_hierarchy.specs.World.{world_of};
-ghost use Rattle.class_hierarchy.specs.Access.{is_interface, is_final};
+ghost use Rattle.class_reader.specs.Flags.{is_interface, is_final};
 ghost use Rattle.class_hierarchy.specs.Building.{first_class, is_twice, is_missing, missing_name, has_flags, wrong_name, twice, missing_super, wrong_super, final_super, HasSupers, IsCyclic, IsWellBuilt, IsFault};
 ghost use Rattle.class_hierarchy.specs.Ranks.{AreRanks};
 ghost use Rattle.class_hierarchy.specs.Faults.{fault_of, final_name};
 
 use crate::above::rows_of;
-use crate::access::{is_final, is_interface};
 use crate::classes::Classes;
 use crate::cycle::{Order, order_of};
 use crate::fault::WorldFault;
@@ -18,7 +17,7 @@ use crate::hierarchy::Hierarchy;
 use crate::rank::supers_first;
 use crate::table::{links_of, supers_of};
 use class_pool::Text;
-use class_reader::{Class, ClassRecord};
+use class_reader::{Class, ClassRecord, is_final, is_interface};
 use graph_core::Components;
 use std::alloc::{AllocError, Global};
 

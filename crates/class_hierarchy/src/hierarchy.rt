@@ -4,16 +4,15 @@ ghost use Rattle.std.specs.Prelude.{◌≡◌, ◌∷◌, ◌<◌, ◌≤◌, �
 ghost use Rattle.std.specs.List.{list_any, flat_map};
 ghost use Rattle.class_hierarchy.specs.World.{object_class, class_at, number_of, superclass, interfaces, line, above, is_below, is_instantiable, superinterfaces, ancestors};
 ghost use Rattle.class_hierarchy.specs.Building.{IsWellBuilt};
-ghost use Rattle.class_hierarchy.specs.Access as access;
+ghost use Rattle.class_reader.specs.Flags as flag;
 ghost use Rattle.class_hierarchy.specs.Orders.{IsSupersFirst};
 ghost use Rattle.class_hierarchy.specs.Tables.{SameFirst, HasFew};
 
 use crate::above::{above_of, row_of, stands_above};
-use crate::access::is_interface;
 use crate::classes::Classes;
 use crate::table::{row_in, super_in};
 use class_pool::Sequence;
-use class_reader::{Class, ClassRecord, is_abstract};
+use class_reader::{Class, ClassRecord, is_abstract, is_interface};
 use std::alloc::{AllocError, Global};
 use std::marker::Model;
 
@@ -136,7 +135,7 @@ impl Hierarchy {
 
     /// Whether the class is an interface (JVMS 4.1).
     pub fn is_interface(&self, class: u32) -> bool
-        ensures { result ≡ access.is_interface (class_at self.now class).flags }
+        ensures { result ≡ flag.is_interface (class_at self.now class).flags }
     {
         is_interface(self.classes.record(class).flags)
     }

@@ -2,7 +2,6 @@
 #![tactic(auto)]
 
 mod above;
-mod access;
 mod build;
 mod built_in;
 mod classes;
@@ -16,4 +15,7 @@ mod table;
 
 pub use fault::WorldFault;
 pub use hierarchy::Hierarchy;
-pub use laws::{interfaces_are_whole, lines_are_whole, names_are_own, superclasses_are_there};
+pub use laws::{
+    instances_are_chains, interfaces_are_whole, lines_are_whole, names_are_own,
+    superclasses_are_there,
+};

@@ -7,3 +7,4 @@ pub mod Targeting
 pub mod Short
 pub mod Keys
 pub mod Standings
+pub mod Chains

@@ -11,7 +11,7 @@ use Rattle.common_laws.proofs.Choices.{or_none, or_nothing, or_assoc}
 use Rattle.common_laws.proofs.Numbers.{contains_listed, listed_contains, place_listed, head_listed, tail_listed, one_listed, flat_listed, listed_flat}
 use Rattle.common_laws.proofs.Tests.{any_in, any_has, any_left, any_right, any_either, find_none, find_some}
 use Rattle.class_reader.specs.declared.class.Method.{Method}
-use Rattle.class_reader.specs.Flags.{is_static, is_abstract}
+use Rattle.class_reader.specs.Flags.{is_private, is_static, is_abstract}
 use Rattle.world.specs.declared.member.MemberId.{MemberId}
 use Rattle.world.specs.declared.access.MethodKind.{MethodKind}
 use Rattle.world.specs.declared.access.MethodKind.TheVariants as kinds
@@ -21,7 +21,7 @@ use Rattle.world.specs.declared.standing.Spread.TheVariants.{Empty, One, Several
 use Rattle.world.specs.declared.standing.Among.{Among}
 use Rattle.world.specs.declared.standing.Chain.{Chain}
 use Rattle.world.specs.declared.standing.Standing.{Standing}
-use Rattle.world.specs.Access.{has_kind, is_private}
+use Rattle.world.specs.Access.{has_kind}
 use Rattle.class_hierarchy.specs.World.{World, class_at, superclass, interfaces, line, above, superinterfaces, ancestors}
 use Rattle.class_hierarchy.specs.Building.{supers, IsWellBuilt}
 use Rattle.class_hierarchy.specs.Orders.{IsSupersFirst}

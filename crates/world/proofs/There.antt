@@ -15,7 +15,8 @@ use Rattle.world.specs.declared.access.MethodKind.{MethodKind}
 use Rattle.world.specs.declared.access.MethodKind.TheVariants as kinds
 use Rattle.world.specs.declared.fault.ResolveFault.{ResolveFault}
 use Rattle.world.specs.declared.fault.ResolveFault.TheVariants.{MissingMember, Ambiguous, PackageOverride, AbstractTarget, NotInstance}
-use Rattle.world.specs.Access.{has_kind, is_private, is_no_target}
+use Rattle.world.specs.Access.{has_kind, is_no_target}
+use Rattle.class_reader.specs.Flags.{is_private}
 use Rattle.class_hierarchy.specs.World.{World, constructor, class_at, line, above, superinterfaces, ancestors, is_below}
 use Rattle.world.specs.Resolution.{first_of, member, is_field, field_in, field_from, is_method, of_kind, method_in, alone, only, interface_method, or_interface, method_from, has_default, is_most_specific}
 use Rattle.world.specs.Selection.{method_of, only_default, inherited, is_package_override, allowed, chosen, selected_by}

@@ -1,16 +1,12 @@
 -- Access flags of methods (JVMS 4.6, table 4.6-A).
-use Rattle.std.specs.Prelude.{ℕ, ◌/◌, ◌%◌, ◌==◌, ◌||◌, not, Bool, true}
-use Rattle.class_reader.specs.Flags.{is_static, is_abstract}
+use Rattle.std.specs.Prelude.{ℕ, ◌||◌, not, Bool, true}
+use Rattle.class_reader.specs.Flags.{is_public, is_private, is_protected, is_static, is_abstract}
 use Rattle.world.specs.declared.access.MethodKind.{MethodKind}
 use Rattle.world.specs.declared.access.MethodKind.TheVariants.{Any, Package, Inherited, Default}
 
--- ACC_PRIVATE, 0x0002
-abbrev pub is_private : ℕ → Bool
-is_private flags = flags / 2 % 2 == 1
-
--- none of ACC_PUBLIC, 0x0001, ACC_PRIVATE and ACC_PROTECTED, 0x0004
+-- for its package alone
 abbrev pub is_package_private : ℕ → Bool
-is_package_private flags = flags % 8 == 0
+is_package_private flags = not (is_public flags || is_private flags || is_protected flags)
 
 -- an instance method that subclasses have too
 abbrev pub is_inherited : ℕ → Bool

@@ -7,7 +7,8 @@ use Rattle.world.specs.declared.member.MemberId.{MemberId}
 use Rattle.world.specs.declared.fault.ResolveFault.{ResolveFault}
 use Rattle.world.specs.declared.fault.ResolveFault.TheVariants.{MissingMember, PackageOverride, AbstractTarget, NotInstance}
 use Rattle.world.specs.declared.access.MethodKind.TheVariants as kinds
-use Rattle.world.specs.Access.{is_private, is_no_target}
+use Rattle.class_reader.specs.Flags.{is_private}
+use Rattle.world.specs.Access.{is_no_target}
 use Rattle.class_hierarchy.specs.World.{World, constructor, class_at, number_of, line, superinterfaces, is_below}
 use Rattle.world.specs.Resolution.{first_of, in_class, method_in, has_default, only, or_interface}
 

@@ -1,12 +1,7 @@
 ghost use Rattle.std.specs.Prelude.{◌≡◌};
 ghost use Rattle.world.specs.Access as access;
 
-use class_reader::{is_abstract, is_static};
-
-/// Only methods of the same class may call the method (JVMS 4.6).
-const ACC_PRIVATE: u16 = 0x0002;
-/// With none of these flags, ACC_PUBLIC, ACC_PRIVATE and ACC_PROTECTED, a method is for its package alone.
-const ACCESS: u16 = 0x0008;
+use class_reader::{is_abstract, is_private, is_protected, is_public, is_static};
 
 /// Which methods are asked for.
 #[derive(Clone, Copy)]
@@ -18,13 +13,6 @@ pub(crate) enum MethodKind {
     Inherited,
     /// An inherited method with code, of an interface.
     Default,
-}
-
-/// Whether a method with these flags is for its class alone.
-pub(crate) fn is_private(flags: u16) -> bool
-    ensures { result ≡ access.is_private flags }
-{
-    flags / ACC_PRIVATE % 2 == 1
 }
 
 /// Whether no instance can run a method with these flags.
@@ -41,7 +29,9 @@ impl MethodKind {
     {
         match self {
             MethodKind::Any => true,
-            MethodKind::Package => flags % ACCESS == 0,
+            MethodKind::Package => {
+                !(is_public(flags) || is_private(flags) || is_protected(flags))
+            }
             MethodKind::Inherited => !(is_private(flags) || is_static(flags)),
             MethodKind::Default => {
                 !(is_abstract(flags) || is_private(flags) || is_static(flags))

@@ -5,6 +5,7 @@ mod access;
 mod declared;
 mod fault;
 mod instance;
+mod laws;
 mod member;
 mod members;
 mod resolve;
@@ -14,5 +15,6 @@ mod targets;
 mod world;
 
 pub use fault::ResolveFault;
+pub use laws::instances_are_chains;
 pub use member::MemberId;
 pub use world::World;

@@ -8,13 +8,13 @@ ghost use Rattle.world.specs.Resolution.{method_in, has_default};
 ghost use Rattle.world.specs.Selection.{package_of, same_package, meets_package, only_default, inherited, is_package_override, allowed, chosen, selected_by, selected, method_of};
 ghost use Rattle.world.specs.Tables.{HasMethod, Tells};
 
-use crate::access::{MethodKind, is_no_target, is_private};
+use crate::access::{MethodKind, is_no_target};
 use crate::fault::ResolveFault;
 use crate::member::MemberId;
 use crate::resolve::{default_of, first_method};
 use crate::world::World;
 use class_pool::Text;
-use class_reader::Method;
+use class_reader::{Method, is_private};
 use std::alloc::Global;
 
 /// The package of a class: what stands before the last slash of its name, with it.

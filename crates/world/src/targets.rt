@@ -13,13 +13,14 @@ ghost use Rattle.class_hierarchy.specs.World.{number_of};
 ghost use Rattle.world.specs.Targets.{rank, is_receiver, AnswersIn, Answers};
 ghost use Rattle.world.specs.Collecting.{first_kind, with_target, AreNamed, Collects};
 
-use crate::access::{is_no_target, is_private};
+use crate::access::is_no_target;
 use crate::fault::ResolveFault;
 use crate::member::MemberId;
 use crate::resolve::default_of;
 use crate::standing::{Spread, Standing, is_several, standing_at};
 use crate::world::World;
 use class_pool::Text;
+use class_reader::is_private;
 use std::alloc::{AllocError, Global};
 use std::collections::BTreeMap;
 
@@ -231,8 +232,12 @@ impl World {
         }
     }
 
-    /// All methods that instances of the class with this number select.
-    fn targets_in(
+    /// All methods that instances of the class with this number select, as `targets`.
+    ///
+    /// # Errors
+    ///
+    /// The first kind of fault that an instance's class meets.
+    pub fn targets_in(
         &self,
         alloc: Global,
         class: u32,

@@ -4,7 +4,7 @@ ghost use Rattle.std.specs.Prelude.{◌≡◌, ◌≢◌, ◌<◌, ◌≤◌, �
 ghost use Rattle.std.specs.Option.{option_copied};
 ghost use Rattle.class_hierarchy.specs.World.{world_of, class_at, number_of, superclass, line, is_below, is_instantiable};
 ghost use Rattle.class_hierarchy.specs.Building.{IsWellBuilt, IsFault};
-ghost use Rattle.class_hierarchy.specs.Access as access;
+ghost use Rattle.class_reader.specs.Flags as flag;
 ghost use Rattle.class_hierarchy.specs.declared.fault.WorldFault.TheVariants.{Memory};
 ghost use Rattle.world.specs.Selection.{method_of};
 ghost use Rattle.class_hierarchy.specs.Tables.{HasFew};
@@ -81,9 +81,9 @@ impl World {
         self.hierarchy.number(name)
     }
 
-    /// What the class with this number says: number 0 is the class that is built in.
+    /// What the class with this number says, and what the class that is built in says where there is none: that class
+    /// has the number 0.
     pub fn record_at(&self, class: u32) -> &ClassRecord
-        requires { class < length self.now }
         ensures same { result.now ≡ class_at self.now class }
         ensures few { HasFew (class_at self.now class) }
     {
@@ -125,7 +125,7 @@ impl World {
 
     /// Whether the class is an interface (JVMS 4.1).
     pub fn is_interface(&self, class: u32) -> bool
-        ensures { result ≡ access.is_interface (class_at self.now class).flags }
+        ensures { result ≡ flag.is_interface (class_at self.now class).flags }
     {
         self.hierarchy.is_interface(class)
     }

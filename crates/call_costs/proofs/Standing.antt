@@ -23,7 +23,8 @@ use Rattle.machine.specs.declared.frames.Frame.{Frame}
 use Rattle.machine.specs.declared.configuration.Here.{Here}
 use Rattle.machine.specs.declared.configuration.Thrown.TheVariants as thrown
 use Rattle.machine.specs.Heap.{Cells, free_number, with_cell, new_fields}
-use Rattle.machine.specs.Types.{parameters_of, words_of_all, result_of}
+use Rattle.descriptors.specs.Pieces.{parameters_of, result_of}
+use Rattle.descriptors.specs.Texts.{words_of_all}
 use Rattle.machine.specs.Outcome.{Effect, Throws, Stops, Outcome, Stays, Enters, Leaves, Standing, code_at, next_pc, with_words, moved}
 use Rattle.machine.specs.Calling.{narrowed_to, receiver_words, waiting, new_frame}
 use Rattle.machine.specs.Step.{outcome_of, resumed, resumed_in, with_result, in_frame, standing_on}

@@ -11,7 +11,9 @@ use Rattle.class_hierarchy.specs.World.{World}
 use Rattle.machine.specs.Outcome.{method_at}
 use Rattle.code_flow.specs.declared.fault.FlowFault.{FlowFault}
 use Rattle.code_flow.specs.Placing.{Placed, placed, broken}
-use Rattle.code_flow.specs.Judging.{Judged, names_float, is_synchronized, has_handlers, judged_if, against_method, against_break, judged_place, places_in, places_at, places_of}
+use Rattle.class_reader.specs.Flags.{is_synchronized}
+use Rattle.descriptors.specs.Texts.{names_float}
+use Rattle.code_flow.specs.Judging.{Judged, has_handlers, judged_if, against_method, against_break, judged_place, places_in, places_at, places_of}
 use Rattle.code_flow.specs.Listing.{targets_at, callees}
 use Rattle.code_flow.specs.Flow.{first_of, fault_of, first_in, planned_place, planned_in, planned}
 use Rattle.code_flow.specs.Scanning.{site_of, first_against, scan_in, scan_at, scan_of}

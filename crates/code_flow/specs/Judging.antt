@@ -3,6 +3,7 @@
 use Rattle.std.specs.Prelude.{ℕ, not, ◌/◌, ◌%◌, ◌==◌, ◌||◌, ◌&&◌, Bool, true, false, List, [], ◌∷◌, ◌++◌, map, Option, Some, None, is_some, Result, Ok, Err, if◌then◌else◌}
 use Rattle.class_pool.specs.declared.constant.Constant.{Constant}
 use Rattle.class_pool.specs.Pool.{class_name_at, member_at, int_at, long_at}
+use Rattle.class_reader.specs.Flags.{is_synchronized}
 use Rattle.class_reader.specs.declared.class.Method.{Method}
 use Rattle.class_reader.specs.declared.class.Code.{Code}
 use Rattle.class_reader.specs.declared.class.Handler.{Handler}
@@ -14,21 +15,12 @@ use Rattle.op_table.specs.declared.construct.Construct.{Construct}
 use Rattle.op_table.specs.declared.construct.Construct.TheVariants as constructs
 use Rattle.world.specs.declared.member.MemberId.{MemberId}
 use Rattle.class_hierarchy.specs.World.{World, class_at, number_of, is_instantiable}
-use Rattle.world.specs.Instances.{is_array}
+use Rattle.descriptors.specs.Texts.{is_array, names_float}
 use Rattle.machine.specs.Outcome.{method_at}
 use Rattle.code_flow.specs.Placing.{Placed, placed, broken, is_last}
 use Rattle.code_flow.specs.Linking.{called}
 
 -- ---- what is known before names are looked up
-
--- a descriptor names float (F) or double (D), outside the names of classes (JVMS 4.3.2)
-abbrev pub names_float_in : Bool → List ℕ → Bool
-names_float_in in_name [] = false
-names_float_in true (b ∷ text) = names_float_in (not (b == 59)) text
-names_float_in false (b ∷ text) = (b == 68 || b == 70) || names_float_in (b == 76) text
-
-abbrev pub names_float : List ℕ → Bool
-names_float desc = names_float_in false desc
 
 abbrev pub construct_if : Bool → Construct → Option Construct
 construct_if true construct = Some construct
@@ -113,10 +105,6 @@ judged w current code p =
     (shown (class_at w current).pool (action_of p.instr))
 
 -- ---- a method
-
--- ACC_SYNCHRONIZED, 0x0020 (JVMS 4.6)
-abbrev pub is_synchronized : ℕ → Bool
-is_synchronized flags = flags / 32 % 2 == 1
 
 -- what stands at a place: the methods that can be called there, or a construct
 pub record Judged : Type 0 where

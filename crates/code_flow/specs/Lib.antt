@@ -6,7 +6,6 @@ pub mod Listing
 pub mod Flow
 pub mod Program
 pub mod Telling
-pub mod Letters
 pub mod Scanning
 pub mod ThereScanning
 pub mod Numbering

@@ -11,7 +11,9 @@ use Rattle.code_flow.specs.declared.scanning.Site.{Site}
 use Rattle.code_flow.specs.declared.scanning.Sites.{Sites}
 use Rattle.code_flow.specs.declared.scanning.Scan.{Scan}
 use Rattle.code_flow.specs.Placing.{Placed, placed, placed_from, broken, broken_from}
-use Rattle.code_flow.specs.Judging.{names_float, is_synchronized, has_handlers, judged}
+use Rattle.class_reader.specs.Flags.{is_synchronized}
+use Rattle.descriptors.specs.Texts.{names_float}
+use Rattle.code_flow.specs.Judging.{has_handlers, judged}
 
 -- an instruction with what is known of it
 abbrev pub site_of : World → ℕ → List ℕ → Placed → Site

@@ -4,66 +4,19 @@ ghost use Rattle.std.specs.Prelude.{◌≡◌, ◌+◌, ◌<◌, ◌≤◌, leng
 ghost use Rattle.std.specs.Option.{option_map, option_copied};
 ghost use Rattle.class_pool.specs.Pool.{member_at, class_name_at};
 ghost use Rattle.class_hierarchy.specs.World.{class_at, number_of};
-ghost use Rattle.world.specs.Instances.{is_array};
 ghost use Rattle.world.specs.Tables.{HasMethod};
-ghost use Rattle.code_flow.specs.Letters.{is_float_at, is_name_next};
 ghost use Rattle.code_flow.specs.Placing.{is_last};
-ghost use Rattle.code_flow.specs.Judging.{names_float, names_float_in, construct_if, against_reference, shown, is_end, made_of, made_by, called_by, meant, judged};
+ghost use Rattle.code_flow.specs.Judging.{construct_if, against_reference, shown, is_end, made_of, made_by, called_by, meant, judged};
 ghost use Rattle.code_flow.specs.Telling.{Tells};
 
 use crate::linking::called;
 use crate::telling::LinkFault;
 use class_pool::{Pool, Sequence, Text};
+use descriptors::{is_array, names_float};
 use op_table::acts::{Action, Call};
 use op_table::{Construct, Instr, action_of};
 use std::alloc::Global;
 use world::{MemberId, World};
-
-// Whether a letter of a descriptor, in the name of a class or not, is the type float or double.
-fn is_float_at(in_name: bool, letter: u8) -> bool
-    ensures { result ≡ is_float_at in_name letter }
-{
-    if in_name {
-        false
-    } else {
-        letter == b'D' || letter == b'F'
-    }
-}
-
-// Whether the letter behind it stands in the name of a class.
-fn is_name_next(in_name: bool, letter: u8) -> bool
-    ensures { result ≡ is_name_next in_name letter }
-{
-    if in_name {
-        !(letter == b';')
-    } else {
-        letter == b'L'
-    }
-}
-
-/// Whether a descriptor names a float or a double, outside the names of classes (JVMS 4.3.2).
-pub(crate) fn names_float(desc: &[u8]) -> bool
-    ensures { result ≡ names_float desc.now }
-{
-    let mut in_name = false;
-    for letter in desc {
-        if is_float_at(in_name, *letter) {
-            return true;
-        }
-        in_name = is_name_next(in_name, *letter);
-    }
-    false
-}
-
-// Whether the name is that of an array (JVMS 4.4.1).
-fn is_array(name: &[u8]) -> bool
-    ensures { result ≡ is_array name.now }
-{
-    match name {
-        [first, ..] => *first == b'[',
-        [] => false,
-    }
-}
 
 // The construct, where there is one.
 fn construct_if(stands: bool, construct: Construct) -> Option<Construct>

@@ -3,20 +3,18 @@
 ghost use Rattle.std.specs.Prelude.{◌≡◌, ◌+◌, ◌<◌, ◌≤◌, length, IfOk, IsTrue, All};
 ghost use Rattle.world.specs.Selection.{method_of};
 ghost use Rattle.world.specs.Tables.{HasMethod};
-ghost use Rattle.code_flow.specs.Judging.{is_synchronized, has_handlers, judged};
+ghost use Rattle.code_flow.specs.Judging.{has_handlers, judged};
 ghost use Rattle.code_flow.specs.Scanning.{site_of, sites_of, first_against, scan_of};
 ghost use Rattle.code_flow.specs.ThereScanning.{HasTargets, AreThere};
 
-use crate::judging::{judged, names_float};
+use crate::judging::judged;
 use crate::telling::LinkFault;
 use class_pool::Sequence;
-use class_reader::{Code, Handler, Method};
+use class_reader::{Code, Handler, Method, is_synchronized};
+use descriptors::names_float;
 use op_table::{Construct, Instr, decode, instrs_fit};
 use std::alloc::{AllocError, Global};
 use world::{MemberId, World};
-
-/// No two threads are in the method at once (JVMS 4.6).
-const ACC_SYNCHRONIZED: u16 = 0x0020;
 
 /// An instruction with the methods that it can call, or the construct that stands against it.
 #[derive(Drop)]
@@ -98,12 +96,6 @@ fn sites_of(alloc: Global, w: &World, current: u32, code: &[u8]) -> Result<Sites
         sites,
         broken: None,
     })
-}
-
-fn is_synchronized(flags: u16) -> bool
-    ensures { result ≡ is_synchronized flags }
-{
-    flags / ACC_SYNCHRONIZED % 2 == 1
 }
 
 fn has_handlers(handlers: &[Handler]) -> bool

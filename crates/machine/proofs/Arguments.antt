@@ -5,7 +5,7 @@ use Rattle.class_hierarchy.specs.World.{World}
 use Rattle.machine.specs.declared.values.Value.{Value}
 use Rattle.machine.specs.Words.{Popped}
 use Rattle.machine.specs.Heap.{Cells, is_of_type}
-use Rattle.machine.specs.Types.{all_types}
+use Rattle.descriptors.specs.Pieces.{types_of}
 use Rattle.machine.specs.Calling.{are_arguments, begins, is_nothing, next_value}
 use Rattle.machine.specs.Stepping.{behind_value}
 
@@ -29,18 +29,18 @@ begins_some passes others None after is = absurd (cc)
 begins_some passes others (Some p) after is = passed_some passes others p.value p.rest after (passes p.value) is
 
 -- the first value isn't of the first type
-pub none_left : (w : World) (heap : Cells) (left type : List ℕ) (types : List (List ℕ)) (words : List Value) → all_types left ≡ type ∷ types
-    → None ≡ behind_value (is_of_type w heap type) (next_value words) → are_arguments w heap (all_types left) words ≡ false
+pub none_left : (w : World) (heap : Cells) (left type : List ℕ) (types : List (List ℕ)) (words : List Value) → types_of left ≡ type ∷ types
+    → None ≡ behind_value (is_of_type w heap type) (next_value words) → are_arguments w heap (types_of left) words ≡ false
 unfolding are_arguments
 none_left w heap left type types words is first = rw is (begins_none (is_of_type w heap type) (are_arguments w heap types) (next_value words) first)
 
 -- it is of it
-pub some_left : (w : World) (heap : Cells) (left type : List ℕ) (types : List (List ℕ)) (words after : List Value) → all_types left ≡ type ∷ types
-    → Some after ≡ behind_value (is_of_type w heap type) (next_value words) → are_arguments w heap (all_types left) words ≡ are_arguments w heap types after
+pub some_left : (w : World) (heap : Cells) (left type : List ℕ) (types : List (List ℕ)) (words after : List Value) → types_of left ≡ type ∷ types
+    → Some after ≡ behind_value (is_of_type w heap type) (next_value words) → are_arguments w heap (types_of left) words ≡ are_arguments w heap types after
 unfolding are_arguments
 some_left w heap left type types words after is first = rw is (begins_some (is_of_type w heap type) (are_arguments w heap types) (next_value words) after first)
 
 -- there is no more type
-pub no_type : (w : World) (heap : Cells) (left : List ℕ) (words : List Value) → all_types left ≡ [] → are_arguments w heap (all_types left) words ≡ is_nothing words
+pub no_type : (w : World) (heap : Cells) (left : List ℕ) (words : List Value) → types_of left ≡ [] → are_arguments w heap (types_of left) words ≡ is_nothing words
 unfolding are_arguments
 no_type w heap left words is = rw is refl

@@ -12,7 +12,7 @@ use Rattle.std.proofs.lemmas.List.Elements.{All-contains, Contains-append_left, 
 use Rattle.common_laws.proofs.Members.{contains_tail, in_flat, from_flat}
 use Rattle.op_table.specs.declared.acts.Width.TheVariants as widths
 use Rattle.class_reader.specs.declared.class.Field.{Field}
-use Rattle.class_reader.specs.Descriptor.{IsFieldDescriptor}
+use Rattle.descriptors.specs.Grammar.{IsFieldDescriptor}
 use Rattle.world.specs.declared.member.MemberId.{MemberId}
 use Rattle.class_hierarchy.specs.World.{World, line, class_at, is_instantiable}
 use Rattle.world.specs.Resolution.{member}

@@ -6,11 +6,9 @@ pub mod Moments
 pub mod Reversed
 pub mod Changes
 pub mod Tops
-pub mod TypesInOrder
 pub mod Turns
 pub mod Arguments
 pub mod Settling
-pub mod Subtypes
 pub mod EnteringCells
 pub mod EnteringHeap
 pub mod EnteringReach

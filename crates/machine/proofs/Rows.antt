@@ -28,7 +28,9 @@ use Rattle.class_reader.specs.Flags.{is_native}
 use Rattle.class_reader.specs.declared.class.Code.{Code}
 use Rattle.machine.specs.declared.heap.Cell.{Cell}
 use Rattle.machine.specs.declared.heap.Cell.TheVariants.{Object, Array}
-use Rattle.machine.specs.Types.{parameters_of, result_of, is_type, words_of_all}
+use Rattle.descriptors.specs.Pieces.{parameters_of, result_of}
+use Rattle.descriptors.specs.Texts.{words_of_all}
+use Rattle.machine.specs.Types.{is_type}
 use Rattle.machine.specs.Heap.{Cells, cell_at, free_number, with_cell, new_fields, is_of_type, is_of_class, class_of}
 use Rattle.machine.specs.Calling.{Meant, Handed, stop, meant_at, linked, receiver_words, taken, are_words, waiting, new_frame, narrowed_to, class_meant, make_object, new_object, return_popped, return_value, throw_popped, or_link, selects, target, has_locals, enter_code, enter_target, hand_over, call_linked, call_meant, call}
 use Rattle.machine.specs.declared.values.Value.{Value}

@@ -6,7 +6,7 @@ use Rattle.class_pool.specs.declared.constant.Constant.{Constant}
 use Rattle.class_pool.specs.Pool.{class_name_at, member_at}
 use Rattle.class_reader.specs.declared.class.Method.{Method}
 use Rattle.class_reader.specs.declared.class.Code.{Code}
-use Rattle.class_reader.specs.Flags.{is_static, is_native}
+use Rattle.class_reader.specs.Flags.{is_static, is_native, is_interface}
 use Rattle.op_table.specs.declared.acts.Kind.{Kind}
 use Rattle.op_table.specs.declared.acts.Kind.TheVariants as kinds
 use Rattle.op_table.specs.declared.acts.Small.TheVariants.{Byte, Char, Short}
@@ -14,7 +14,6 @@ use Rattle.op_table.specs.declared.acts.Call.{Call}
 use Rattle.op_table.specs.declared.acts.Call.TheVariants.{Special, Static}
 use Rattle.world.specs.declared.member.MemberId.{MemberId}
 use Rattle.class_hierarchy.specs.World.{World, class_at, number_of, is_below, is_instantiable}
-use Rattle.class_hierarchy.specs.Access.{is_interface}
 use Rattle.world.specs.Resolution.{resolved_method}
 use Rattle.world.specs.Selection.{method_of, selected_by}
 use Rattle.machine.specs.declared.values.Value.{Value}
@@ -27,7 +26,9 @@ use Rattle.machine.specs.declared.configuration.Stop.TheVariants as stops
 use Rattle.machine.specs.declared.configuration.Thrown.TheVariants as thrown
 use Rattle.machine.specs.Numbers.{narrowed}
 use Rattle.machine.specs.Words.{Popped, popped}
-use Rattle.machine.specs.Types.{parameters_of, result_of, is_type, words_of_all}
+use Rattle.descriptors.specs.Pieces.{parameters_of, result_of}
+use Rattle.descriptors.specs.Texts.{words_of_all}
+use Rattle.machine.specs.Types.{is_type}
 use Rattle.machine.specs.Heap.{Cells, cell_at, free_number, with_cell, new_fields, is_of_type, is_of_class, class_of}
 use Rattle.machine.specs.Outcome.{Effect, Throws, Stops, Outcome, Stays, Enters, Leaves, Standing, code_at, next_pc, with_words, goes_on}
 

@@ -6,7 +6,7 @@ use Rattle.class_reader.specs.declared.class.Field.{Field}
 use Rattle.class_reader.specs.declared.class.Method.{Method}
 use Rattle.class_reader.specs.declared.class.Code.{Code}
 use Rattle.class_reader.specs.Flags.{is_static}
-use Rattle.class_reader.specs.Descriptor.{IsFieldDescriptor}
+use Rattle.descriptors.specs.Grammar.{IsFieldDescriptor}
 use Rattle.op_table.specs.declared.acts.Width.TheVariants as widths
 use Rattle.world.specs.declared.member.MemberId.{MemberId}
 use Rattle.class_hierarchy.specs.World.{World, class_at, is_instantiable}
@@ -17,7 +17,8 @@ use Rattle.machine.specs.declared.heap.Cell.TheVariants.{Object, Array}
 use Rattle.machine.specs.declared.configuration.State.{State}
 use Rattle.machine.specs.declared.configuration.Status.TheVariants as statuses
 use Rattle.machine.specs.Numbers.{fits}
-use Rattle.machine.specs.Types.{parameters_of, is_int_type, is_type}
+use Rattle.descriptors.specs.Pieces.{parameters_of}
+use Rattle.machine.specs.Types.{is_int_type, is_type}
 use Rattle.machine.specs.Heap.{Cells, cell_at, object_fields, is_of_type}
 use Rattle.machine.specs.Outcome.{method_at}
 use Rattle.machine.specs.Calling.{narrowed_to, new_frame}

@@ -1,11 +1,10 @@
 -- Objects and arrays, and what they are instances of (JVMS 2.4, 2.5.3).
-use Rattle.std.specs.Prelude.{ℕ, suc, ◌-◌, ◌==◌, ◌&&◌, ◌||◌, not, Bool, false, pos, List, [], ◌∷◌, ◌++◌, length, take, Option, Some, None, option_and_then, slice_get, codes, map, flat_map, if◌then◌else◌}
-use Rattle.std.specs.Option.{option_map_or}
-use Rattle.std.specs.Str.{bytes_eq}
+use Rattle.std.specs.Prelude.{ℕ, suc, ◌==◌, ◌&&◌, not, Bool, false, pos, List, [], ◌∷◌, Option, Some, None, option_and_then, slice_get, codes, map, flat_map, if◌then◌else◌}
 use Rattle.class_reader.specs.declared.class.Field.{Field}
 use Rattle.class_reader.specs.Flags.{is_static}
 use Rattle.world.specs.declared.member.MemberId.{MemberId}
-use Rattle.class_hierarchy.specs.World.{World, class_at, number_of, line, is_below, object_name}
+use Rattle.class_hierarchy.specs.World.{World, class_at, line, is_below}
+use Rattle.world.specs.Instances.{is_object_of_type, is_array_of_type}
 use Rattle.machine.specs.declared.values.Value.{Value}
 use Rattle.machine.specs.declared.values.Value.TheVariants.{Int, Long, Pad, Null, Ref}
 use Rattle.machine.specs.declared.heap.Cell.{Cell}
@@ -60,39 +59,11 @@ new_fields w c = map (λ f. (f.0, default_of f.1)) (object_fields w c)
 
 -- ---- instances
 
--- the class with the first name is that with the second, or below it
-abbrev pub is_below_named : World → List ℕ → List ℕ → Bool
-is_below_named w name above = option_map_or (λ c. option_map_or (is_below w c) (number_of w above) false) (number_of w name) false
-
--- the name between `L` and `;`, where the `L` is gone
-abbrev pub named_by : List ℕ → List ℕ
-named_by text = take (length text - 1) text
-
--- the type of all references: `Ljava/lang/Object;`
-abbrev pub is_object_type : List ℕ → Bool
-is_object_type type = is_type (76 ∷ object_name ++ 59 ∷ []) type
-
--- each value of the one type is one of the other. An array is an object, an array of an equal type, and one of a
--- type of which its elements are (JVMS 6.5.checkcast).
-abbrev pub is_subtype : World → List ℕ → List ℕ → Bool
-is_subtype w [] type = false
-is_subtype w (a ∷ text) [] = false
-is_subtype w (a ∷ text) (b ∷ type) =
-    bytes_eq (a ∷ text) (b ∷ type)
-    || is_reference_type (a ∷ text) && is_object_type (b ∷ type)
-    || (a == 91 && b == 91) && is_subtype w text type
-    || (a == 76 && b == 76) && is_below_named w (named_by text) (named_by type)
-
--- an object of the class is of the type
-abbrev pub is_object_of : World → ℕ → List ℕ → Bool
-is_object_of w c [] = false
-is_object_of w c (b ∷ type) = b == 76 && option_map_or (is_below w c) (number_of w (named_by type)) false
-
--- an object or array is of the type
+-- an object or array is of the type, which is that of a class or an array
 abbrev pub is_instance : World → List ℕ → Option Cell → Bool
 is_instance w type None = false
-is_instance w type (Some (Object class fields)) = is_object_of w class type
-is_instance w type (Some (Array element items)) = is_subtype w (91 ∷ element) type
+is_instance w type (Some (Object class fields)) = is_object_of_type w class type
+is_instance w type (Some (Array element items)) = is_array_of_type w element type
 
 -- a value is of the type
 unfoldable pub is_of_type : World → Cells → List ℕ → Value → Bool

@@ -2,7 +2,6 @@ pub mod Numbers
 pub mod Words
 pub mod Types
 pub mod Heap
-pub mod Subtypes
 pub mod Outcome
 pub mod Computing
 pub mod Change

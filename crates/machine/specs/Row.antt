@@ -31,7 +31,9 @@ use Rattle.machine.specs.declared.configuration.Stop.TheVariants.{Support}
 use Rattle.machine.specs.declared.configuration.Thrown.TheVariants as thrown
 use Rattle.machine.specs.Numbers.{wrapped, fits, exact, throws, wraps, distance, shifted, combined, narrowed, compared}
 use Rattle.machine.specs.Words.{Popped, PoppedNumber, PoppedTwo, pushed, popped, popped_number, popped_two, number, shuffled, loaded, stored}
-use Rattle.machine.specs.Types.{parameters_of, result_of, is_type, words_of_all}
+use Rattle.descriptors.specs.Pieces.{parameters_of, result_of}
+use Rattle.descriptors.specs.Texts.{words_of_all}
+use Rattle.machine.specs.Types.{is_type}
 use Rattle.machine.specs.Heap.{Cells, cell_at, free_number, with_cell, new_fields, is_of_type, is_of_class}
 use Rattle.machine.specs.Outcome.{Goes, Throws, Stops, Outcome, Stays, Enters, Leaves, Standing, code_at, went, next_pc, moved}
 use Rattle.machine.specs.Calling.{Meant, Handed, meant_at, linked, receiver_words, taken, are_words, waiting, new_frame, narrowed_to, class_meant}

@@ -9,12 +9,12 @@ ghost use Rattle.machine.specs.Stepping.{Gives, HasEntered, IsNext, Selects, fra
 ghost use Rattle.class_reader.specs.Flags as flags;
 
 use crate::change::{Failure, Halt};
-use crate::descriptors::parameter_words;
 use crate::handing::{are_words, receiver_words};
 use crate::linking::{UNLINKED, link, meant_by, select};
 use crate::turn::Turn;
 use crate::{Cell, Frame, Heap, Here, Locals, Stack, Stop, Thrown, Value};
 use class_reader::{Code, Method, is_native};
+use descriptors::parameter_words;
 use op_table::acts::Call;
 use std::alloc::{AllocError, Global};
 use world::{MemberId, World};

@@ -3,7 +3,7 @@
 ghost use Rattle.std.specs.Prelude.{◌≡◌, ◌<◌, ◌∷◌, ◌↔◌, All, IfOk, IsTrue, false, length, slice_get};
 ghost use Rattle.std.specs.Option.{option_map_or};
 ghost use Rattle.std.specs.List.{list_all, list_any};
-ghost use Rattle.class_reader.specs.Descriptor.{IsFieldDescriptor};
+ghost use Rattle.descriptors.specs.Grammar.{IsFieldDescriptor};
 ghost use Rattle.machine.specs.Heap.{cell_at, is_object_field};
 ghost use Rattle.machine.specs.Entry.{IsArray, IsHeld};
 ghost use Rattle.machine.specs.EnteringCells.{agrees, are_distinct, are_items, are_known, has_each, has_own, has_value, is_in_range, is_known, is_member, is_object, left_in, own_holds};
@@ -11,7 +11,8 @@ ghost use Rattle.machine.specs.EnteringCells.{agrees, are_distinct, are_items, a
 use crate::creating::is_object_field;
 use crate::typing::is_of_type;
 use crate::{Cell, Heap, Value, ints};
-use class_reader::{ClassRecord, Field, is_field_descriptor};
+use class_reader::{ClassRecord, Field};
+use descriptors::is_field_descriptor;
 use op_table::acts::Small;
 use std::alloc::{AllocError, Global};
 use world::{MemberId, World};

@@ -1,12 +1,12 @@
 //! The types of a method's arguments (JVMS 4.3.3).
 
 ghost use Rattle.std.specs.Prelude.{◌≡◌, ◌∷◌, [], ◌++◌, IfOk};
-ghost use Rattle.machine.specs.Types.{parameters_of};
+ghost use Rattle.descriptors.specs.Pieces.{parameters_of};
 ghost use Rattle.machine.specs.Entry.{argument_types};
 
-use crate::descriptors::{behind_open, first_type};
 use class_pool::Text;
 use class_reader::{ClassRecord, Method, is_static};
+use descriptors::{behind_open, first_type};
 use std::alloc::{AllocError, Global};
 
 // The type of the objects of the class with this name.
@@ -21,7 +21,6 @@ fn own_type(alloc: Global, name: &[u8]) -> Result<Text, AllocError>
 }
 
 // The types, and behind them those of the parameters.
-#[tactic(auto, using(crate::proofs::TypesInOrder::parameters_all))]
 fn with_parameters(alloc: Global, types: Vec<Text>, desc: &[u8]) -> Result<Vec<Text>, AllocError>
     ensures { IfOk result (λ v. v.items ≡ types.items ++ parameters_of desc.now) }
 {

@@ -2,13 +2,13 @@
 
 ghost use Rattle.std.specs.Prelude.{◌≡◌, option_map};
 ghost use Rattle.machine.specs.Heap.{is_of_type};
-ghost use Rattle.machine.specs.Types.{all_types, parameters_of};
+ghost use Rattle.descriptors.specs.Pieces.{types_of, parameters_of};
 ghost use Rattle.machine.specs.Calling.{are_arguments, are_words, is_reference, next_value, receiver_words};
 ghost use Rattle.machine.specs.Stepping.{are_received, behind_value};
 
-use crate::descriptors::{behind_open, first_type};
 use crate::typing::is_of_type;
 use crate::{Heap, Value};
+use descriptors::{behind_open, first_type};
 use op_table::acts::Call;
 use world::World;
 
@@ -46,7 +46,7 @@ fn behind_value<'w>(
 // Whether words are those of values of the types, in order.
 #[tactic(auto, using(crate::proofs::Arguments::none_left, crate::proofs::Arguments::some_left, crate::proofs::Arguments::no_type))]
 fn are_arguments(world: &World, heap: &Heap, types: &[u8], words: &[Value]) -> bool
-    ensures { result ≡ are_arguments world.now heap.now (all_types types.now) words.now }
+    ensures { result ≡ are_arguments world.now heap.now (types_of types.now) words.now }
 {
     let mut left = types;
     let mut rest = words;
@@ -78,7 +78,7 @@ pub(crate) fn receiver_words(kind: Call) -> usize
 
 // Whether words are a reference and those of values of the types.
 fn are_received(world: &World, heap: &Heap, types: &[u8], words: &[Value]) -> bool
-    ensures { result ≡ are_received world.now heap.now (all_types types.now) words.now }
+    ensures { result ≡ are_received world.now heap.now (types_of types.now) words.now }
 {
     match words {
         [] => false,
@@ -87,7 +87,6 @@ fn are_received(world: &World, heap: &Heap, types: &[u8], words: &[Value]) -> bo
 }
 
 // Whether words are those of a call of a method with this descriptor.
-#[tactic(auto, using(crate::proofs::TypesInOrder::parameters_all))]
 pub(crate) fn are_words(
     world: &World,
     heap: &Heap,

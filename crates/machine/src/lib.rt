@@ -6,7 +6,6 @@ mod change;
 mod computing;
 mod configuration;
 mod creating;
-mod descriptors;
 mod entering;
 mod entering_cells;
 mod entering_heap;

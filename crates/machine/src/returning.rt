@@ -8,12 +8,12 @@ ghost use Rattle.machine.specs.Outcome.{Stays, has_room};
 ghost use Rattle.machine.specs.Stepping.{IsBack, back_of, left_by};
 
 use crate::change::{Failure, has_space, put, width_of};
-use crate::descriptors::result_of;
 use crate::reading::value_on;
 use crate::turn::Turn;
 use crate::typing::is_of_type;
 use crate::{Frame, Here, Stack, Stop, Thrown, Value, ints};
 use class_reader::Code;
+use descriptors::result_of;
 use op_table::acts::{Kind, Small};
 use std::alloc::AllocError;
 use world::World;

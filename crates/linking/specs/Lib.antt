@@ -1,0 +1,5 @@
+pub mod Told
+pub mod References
+pub mod Calls
+pub mod Members
+pub mod TargetList

@@ -1,0 +1,16 @@
+//! What the instructions mean that name members and classes: which method a call runs, which field is read or written,
+//! which class is meant, or what keeps that from being told.
+#![tactic(auto)]
+
+mod calls;
+mod fault;
+mod laws;
+mod members;
+mod references;
+mod targets;
+
+pub use calls::{Meant, called, linked_by};
+pub use fault::LinkFault;
+pub use laws::targets_are_listed;
+pub use members::{field_meant, known, made_of};
+pub use references::{against_call, against_class, against_field, construct_if};

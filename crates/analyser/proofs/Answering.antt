@@ -68,8 +68,8 @@ pub has_bad_class : (target : Target) (files : List File) (word offset : ℕ) (k
 has_bad_class target files word offset kind said at shape is_bad words places kinds = bad word offset kind is_bad cc
 
 pub names_many : (request : Request) (before after : ShelfState) (count : ℕ) → count ≡ length request.files → most_files < count
-    → IsAnswer (Ok request) before after (answers.Limit Files most_files)
-names_many request before after count counted more = many request refl (omega (arith, counted)) refl
+    → after ≡ before → IsAnswer (Ok request) before after (answers.Limit Files most_files)
+names_many request before after count counted more same = many request refl (omega (arith, counted)) refl same
 
 pub fetch_fails : (request : Request) (paths : List PathWord) (before after : ShelfState) (count word shown : ℕ) → paths ≡ request.files → count ≡ length request.files
     → count ≤ most_files → IsFailed before after paths word → shown ≡ word → IsAnswer (Ok request) before after (answers.FetchFault shown)
@@ -82,17 +82,17 @@ is_overlong request paths before after count word shown same counted few at is =
     overlong request word refl (omega (arith, counted)) (subst (λ (ps : List PathWord). IsOverlong before after ps word) same at) (ap answers.TooLong is)
 
 pub has_many_bytes : (request : Request) (paths : List PathWord) (before after : ShelfState) (count : ℕ) → paths ≡ request.files → count ≡ length request.files
-    → count ≤ most_files → IsTooBig before paths → IsAnswer (Ok request) before after (answers.Limit Bytes most_bytes)
-has_many_bytes request paths before after count same counted few big =
-    too_big request refl (omega (arith, counted)) (subst (λ (ps : List PathWord). IsTooBig before ps) same big) refl
+    → count ≤ most_files → IsTooBig before paths → after ≡ before → IsAnswer (Ok request) before after (answers.Limit Bytes most_bytes)
+has_many_bytes request paths before after count same counted few big stays =
+    too_big request refl (omega (arith, counted)) (subst (λ (ps : List PathWord). IsTooBig before ps) same big) refl stays
 
 pub answers_on_files : {E : Type 0} (request : Request) (paths : List PathWord) (fs shown : List File) (before after : ShelfState) (count : ℕ) (result : Result Status E)
     → paths ≡ request.files → count ≡ length request.files → count ≤ most_files → HoldsAll before.files paths fs → HoldBytes fs → total fs ≤ most_bytes → shown ≡ fs
-    → IfOk result (OnFiles request.target shown) → IfOk result (IsAnswer (Ok request) before after)
-answers_on_files request paths fs shown before after count (Ok status) same counted few held hold fits is on =
+    → IfOk result (OnFiles request.target shown) → after ≡ before → IfOk result (IsAnswer (Ok request) before after)
+answers_on_files request paths fs shown before after count (Ok status) same counted few held hold fits is on stays =
     on_files request fs refl (omega (arith, counted)) (subst (λ (ps : List PathWord). HoldsAll before.files ps fs) same held) hold fits
-    (subst (λ (gs : List File). OnFiles request.target gs status) is on)
-answers_on_files request paths fs shown before after count (Err e) same counted few held hold fits is on = tt
+    (subst (λ (gs : List File). OnFiles request.target gs status) is on) stays
+answers_on_files request paths fs shown before after count (Err e) same counted few held hold fits is on stays = tt
 
 -- ---- the bound of a program
 

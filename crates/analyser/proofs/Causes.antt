@@ -32,14 +32,14 @@ use Rattle.analyser.specs.declared.words.Request.{Request}
 use Rattle.ports.specs.Shelf.{ShelfState}
 use Rattle.ports.specs.Sink.{SinkState}
 use Rattle.analyser.specs.Words.{bound_asked, asked_by, asked_of, paths_of}
-use Rattle.analyser.specs.Files.{HoldBytes, HoldsAll, Tells, IsTooBig, total, most_files, most_bytes}
+use Rattle.analyser.specs.Files.{HoldBytes, HoldsAll, Tells, IsFirstLong, IsTooBig, total, most_files, most_bytes}
 use Rattle.analyser.specs.Classes.{AreClasses, IsBadClass}
 use Rattle.analyser.specs.Answer.{instruction_cost, target_of, is_too_great, first_cost, bound_of, answer_by, answer_on}
 use Rattle.analyser.specs.Headline.{ReadsAll, Reads, HasBound}
 use Rattle.analyser.specs.Causes.{IsUsage, IsLimit, files, bytes, too_many, too_great, IsFetchFault, IsTooLong, IsNotYet, HasBadClass, HasBadWorld, HasNoMethod, IsUnsupported}
-use Rattle.analyser.specs.Answers.{OnClasses, world, no_world, OnFiles, read, bad, IsAnswer, usage, later, many, fault, overlong, too_big, on_files, WasPut, whole, failed, out_of_memory, Outcome, answered, gave_up, IsOutFault, IsReported, UnlessNotPut, so, not_put, no_memory, UnlessOutside, put_so, not_fetched, not_short, AsksFor}
+use Rattle.analyser.specs.Answers.{OnClasses, world, no_world, OnFiles, read, bad, IsAnswer, usage, later, many, fault, overlong, too_big, on_files, WasPut, whole, failed, out_of_memory, Outcome, answered, gave_up, IsOutFault, IsReported, UnlessNotPut, so, not_put, no_memory, UnlessOutside, put_so, not_fetched, AsksFor}
 use Rattle.analyser.proofs.Worlds.{same_fault, no_fault}
-use Rattle.analyser.proofs.Told.{Decided, same_files, not_too_big, same_classes, no_bad_class, same_bad_class}
+use Rattle.analyser.proofs.Told.{Decided, same_files, not_too_big, is_first_long, none_is_long, long_is_not_big, same_long, same_classes, no_bad_class, same_bad_class}
 
 abbrev pub Asked : Type 0
 Asked = Result Request Status
@@ -145,25 +145,25 @@ on_read asked before after request fs status known a held (bad word offset kind 
     moved asked before after status (answers.BadClass word offset kind) is (record { request = request; files = fs; is_asked = a; held = held; bad = is_bad })
 
 pub cause_of : (asked : Asked) (before after : ShelfState) (status : Status) → Known → IsAnswer asked before after status → Cause asked before after status
-cause_of asked before after status known (usage index a is) = moved asked before after status (answers.Usage index) is a
-cause_of asked before after status known (later word a is) = moved asked before after status (answers.NotYet word) is a
-cause_of asked before after status known (many request a more is) =
+cause_of asked before after status known (usage index a is stays) = moved asked before after status (answers.Usage index) is a
+cause_of asked before after status known (later word a is stays) = moved asked before after status (answers.NotYet word) is a
+cause_of asked before after status known (many request a more is stays) =
     moved asked before after status (answers.Limit Files most_files) is (files request a more refl refl)
 cause_of asked before after status known (fault request word a within at is) =
     moved asked before after status (answers.FetchFault word) is (record { request = request; is_asked = a; failed = at })
 cause_of asked before after status known (overlong request word a within at is) =
     moved asked before after status (answers.TooLong word) is (record { request = request; is_asked = a; overlong = at })
-cause_of asked before after status known (too_big request a within big is) =
+cause_of asked before after status known (too_big request a within big is stays) =
     moved asked before after status (answers.Limit Bytes most_bytes) is (bytes request a big refl refl)
-cause_of asked before after status known (on_files request fs a within held hold fits on) = on_read asked before after request fs status known a held on
+cause_of asked before after status known (on_files request fs a within held hold fits on stays) = on_read asked before after request fs status known a held on
 
 -- ---- what the call answers
 
 put_cause : (asked : Asked) (before after : ShelfState) (status result : Status) (old new : SinkState) → Known → IsAnswer asked before after status
     → WasPut status result old new → IsReported result → Cause asked before after result
-put_cause asked before after status result old new known answer (whole same put) reported = moved asked before after result status same (cause_of asked before after status known answer)
-put_cause asked before after status result old new known answer (failed is rises taken) reported = absurd (reported.put is)
-put_cause asked before after status result old new known answer (out_of_memory is kept) reported = absurd (reported.held is)
+put_cause asked before after status result old new known answer (whole same put called kept) reported = moved asked before after result status same (cause_of asked before after status known answer)
+put_cause asked before after status result old new known answer (failed is rises taken called) reported = absurd (reported.put is)
+put_cause asked before after status result old new known answer (out_of_memory is nothing) reported = absurd (reported.held is)
 
 told_cause : (asked : Asked) (before after : ShelfState) (result : Status) (old new : SinkState) → Known → Outcome asked before after result old new
     → IsReported result → Cause asked before after result
@@ -197,35 +197,36 @@ is_usage (Err (Wrong kind i)) index e = let same : i ≡ index = cc in (kind, ap
 is_usage (Err Memory) index e = absurd cc
 
 bound_refused : (cost : Cost) (proof : Bool) (target : Target) (paths : List PathWord) (before after : ShelfState) (status : Status)
-    → bound_asked cost proof target paths ≡ Err status → IsAnswer (bound_asked cost proof target paths) before after status
-bound_refused Instructions true target paths before after status e = later _ refl cc
-bound_refused Instructions false target paths before after status e = absurd cc
-bound_refused Objects proof target paths before after status e = later 2 refl cc
-bound_refused (Weights path) proof target paths before after status e = later 2 refl cc
+    → after ≡ before → bound_asked cost proof target paths ≡ Err status → IsAnswer (bound_asked cost proof target paths) before after status
+bound_refused Instructions true target paths before after status same e = later _ refl (cc) same
+bound_refused Instructions false target paths before after status same e = absurd cc
+bound_refused Objects proof target paths before after status same e = later 2 refl (cc) same
+bound_refused (Weights path) proof target paths before after status same e = later 2 refl (cc) same
 
-command_refused : (command : Command) (before after : ShelfState) (status : Status) → asked_by command ≡ Err status → IsAnswer (asked_by command) before after status
-command_refused (commands.Bound cost proof target paths) before after status e = bound_refused cost proof target paths before after status e
-command_refused (commands.Check cost report target paths) before after status e = later 1 refl cc
-command_refused (commands.Relations cost target paths) before after status e = later 1 refl cc
-command_refused (commands.Run cost steps target args paths) before after status e = later 1 refl cc
-command_refused (commands.Sample number methods) before after status e = later 1 refl cc
+command_refused : (command : Command) (before after : ShelfState) (status : Status) → after ≡ before → asked_by command ≡ Err status
+    → IsAnswer (asked_by command) before after status
+command_refused (commands.Bound cost proof target paths) before after status same e = bound_refused cost proof target paths before after status same e
+command_refused (commands.Check cost report target paths) before after status same e = later 1 refl (cc) same
+command_refused (commands.Relations cost target paths) before after status same e = later 1 refl (cc) same
+command_refused (commands.Run cost steps target args paths) before after status same e = later 1 refl (cc) same
+command_refused (commands.Sample number methods) before after status same e = later 1 refl (cc) same
 
 -- the answer where the words ask for nothing that is built
-pub answer_refused : (meaning : Result Command WordFault) (before after : ShelfState) (status : Status) → asked_of meaning ≡ Err status
+pub answer_refused : (meaning : Result Command WordFault) (before after : ShelfState) (status : Status) → after ≡ before → asked_of meaning ≡ Err status
     → (asked_of meaning ≡ Err answers.Memory → ⊥) → IsAnswer (asked_of meaning) before after status
-answer_refused (Ok command) before after status e reported = command_refused command before after status e
-answer_refused (Err (Wrong kind index)) before after status e reported = usage index refl cc
-answer_refused (Err Memory) before after status e reported = absurd (reported refl)
+answer_refused (Ok command) before after status same e reported = command_refused command before after status same e
+answer_refused (Err (Wrong kind index)) before after status same e reported = usage index refl (cc) same
+answer_refused (Err Memory) before after status same e reported = absurd (reported refl)
 
 -- ---- where the sink fails
 
 put_fault : (asked : Asked) (before after : ShelfState) (status result : Status) (old new : SinkState) → Known → IsAnswer asked before after status
     → WasPut status result old new → result ≡ answers.OutFault → IsOutFault asked before after old new
-put_fault asked before after status result old new known answer (whole same put) is =
+put_fault asked before after status result old new known answer (whole same put called kept) is =
     absurd (subst (λ (s : Status). Cause asked before after s) (sym same ∙ is) (cause_of asked before after status known answer))
-put_fault asked before after status result old new known answer (failed same rises taken) is =
-    record { status = status; answer = answer; rises = rises; taken = taken }
-put_fault asked before after status result old new known answer (out_of_memory same kept) is = absurd cc
+put_fault asked before after status result old new known answer (failed same rises taken called) is =
+    record { status = status; answer = answer; rises = rises; taken = taken; called = called }
+put_fault asked before after status result old new known answer (out_of_memory same nothing) is = absurd cc
 
 pub is_out_fault : (asked : Asked) (before after : ShelfState) (result : Status) (old new : SinkState) → Known → Outcome asked before after result old new
     → result ≡ answers.OutFault → IsOutFault asked before after old new
@@ -235,9 +236,9 @@ is_out_fault asked before after result old new known (gave_up same kept) is = ab
 -- ---- what is answered where nothing outside fails
 
 unless_put : (status wanted result : Status) (old new : SinkState) → WasPut status result old new → status ≡ wanted → UnlessNotPut wanted result
-unless_put status wanted result old new (whole same put) is = so (same ∙ is)
-unless_put status wanted result old new (failed same rises taken) is = not_put same
-unless_put status wanted result old new (out_of_memory same kept) is = no_memory same
+unless_put status wanted result old new (whole same put called kept) is = so (same ∙ is)
+unless_put status wanted result old new (failed same rises taken called) is = not_put same
+unless_put status wanted result old new (out_of_memory same nothing) is = no_memory same
 
 -- where each answer is this one, it is told
 pub is_told : (asked : Asked) (before after : ShelfState) (result wanted : Status) (old new : SinkState) → Outcome asked before after result old new
@@ -245,20 +246,16 @@ pub is_told : (asked : Asked) (before after : ShelfState) (result wanted : Statu
 is_told asked before after result wanted old new (answered status answer put) each = unless_put status wanted result old new put (each status answer)
 is_told asked before after result wanted old new (gave_up is kept) each = no_memory is
 
--- this answer, or one of the shelf's
+-- this answer, or a fault of the shelf
 data Same (wanted status : Status) : Type 0 where
   same : status ≡ wanted → Same wanted status
   fetch : (word : ℕ) → status ≡ answers.FetchFault word → Same wanted status
-  long : (word : ℕ) → status ≡ answers.TooLong word → Same wanted status
 
 unless_same : (status wanted result : Status) (old new : SinkState) → WasPut status result old new → Same wanted status → UnlessOutside wanted result
 unless_same status wanted result old new put (same is) = put_so (unless_put status wanted result old new put is)
-unless_same status wanted result old new (whole e put) (fetch word is) = not_fetched word (e ∙ is)
-unless_same status wanted result old new (failed e rises taken) (fetch word is) = put_so (not_put e)
-unless_same status wanted result old new (out_of_memory e kept) (fetch word is) = put_so (no_memory e)
-unless_same status wanted result old new (whole e put) (long word is) = not_short word (e ∙ is)
-unless_same status wanted result old new (failed e rises taken) (long word is) = put_so (not_put e)
-unless_same status wanted result old new (out_of_memory e kept) (long word is) = put_so (no_memory e)
+unless_same status wanted result old new (whole e put called kept) (fetch word is) = not_fetched word (e ∙ is)
+unless_same status wanted result old new (failed e rises taken called) (fetch word is) = put_so (not_put e)
+unless_same status wanted result old new (out_of_memory e nothing) (fetch word is) = put_so (no_memory e)
 
 unless_outside : (asked : Asked) (before after : ShelfState) (result wanted : Status) (old new : SinkState) → Outcome asked before after result old new
     → ((status : Status) → IsAnswer asked before after status → Same wanted status) → UnlessOutside wanted result
@@ -270,13 +267,13 @@ same_request asked one other a b = cc
 
 -- words that are refused
 pub refused_so : (asked : Asked) (before after : ShelfState) (wanted status : Status) → asked ≡ Err wanted → IsAnswer asked before after status → status ≡ wanted
-refused_so asked before after wanted status a (usage index b is) = cc
-refused_so asked before after wanted status a (later word b is) = cc
-refused_so asked before after wanted status a (many request b more is) = absurd cc
+refused_so asked before after wanted status a (usage index b is stays) = cc
+refused_so asked before after wanted status a (later word b is stays) = cc
+refused_so asked before after wanted status a (many request b more is stays) = absurd cc
 refused_so asked before after wanted status a (fault request word b within at is) = absurd cc
 refused_so asked before after wanted status a (overlong request word b within at is) = absurd cc
-refused_so asked before after wanted status a (too_big request b within big is) = absurd cc
-refused_so asked before after wanted status a (on_files request fs b within held hold fits on) = absurd cc
+refused_so asked before after wanted status a (too_big request b within big is stays) = absurd cc
+refused_so asked before after wanted status a (on_files request fs b within held hold fits on stays) = absurd cc
 
 still_within : (asked : Asked) (one other : Request) → asked ≡ Ok one → asked ≡ Ok other → length other.files ≤ most_files → length one.files ≤ most_files
 still_within asked one other a b within = subst (λ (r : Request). length r.files ≤ most_files) (same_request asked one other a b) within
@@ -284,31 +281,36 @@ still_within asked one other a b within = subst (λ (r : Request). length r.file
 -- too many files are named
 pub many_so : (asked : Asked) (before after : ShelfState) (request : Request) (status : Status) → asked ≡ Ok request → most_files < length request.files
     → IsAnswer asked before after status → status ≡ answers.Limit Files most_files
-many_so asked before after request status a more (usage index b is) = absurd cc
-many_so asked before after request status a more (later word b is) = absurd cc
-many_so asked before after request status a more (many other b again is) = is
+many_so asked before after request status a more (usage index b is stays) = absurd cc
+many_so asked before after request status a more (later word b is stays) = absurd cc
+many_so asked before after request status a more (many other b again is stays) = is
 many_so asked before after request status a more (fault other word b within at is) = let few = still_within asked request other a b within in absurd (omega arith)
 many_so asked before after request status a more (overlong other word b within at is) = let few = still_within asked request other a b within in absurd (omega arith)
-many_so asked before after request status a more (too_big other b within big is) = let few = still_within asked request other a b within in absurd (omega arith)
-many_so asked before after request status a more (on_files other fs b within held hold fits on) = let few = still_within asked request other a b within in absurd (omega arith)
+many_so asked before after request status a more (too_big other b within big is stays) = let few = still_within asked request other a b within in absurd (omega arith)
+many_so asked before after request status a more (on_files other fs b within held hold fits on stays) = let few = still_within asked request other a b within in absurd (omega arith)
 
 -- the files are told: what the answer on them is, and what it is where they are too big
 on_told : (asked : Asked) (before after : ShelfState) (request : Request) (wanted status : Status) → asked ≡ Ok request → length request.files ≤ most_files
+    → ((word : ℕ) → IsFirstLong before request.files word → Same wanted (answers.TooLong word))
     → (IsTooBig before request.files → Same wanted (answers.Limit Bytes most_bytes))
     → ((fs : List File) → HoldsAll before.files request.files fs → HoldBytes fs → total fs ≤ most_bytes → OnFiles request.target fs status → status ≡ wanted)
     → IsAnswer asked before after status → Same wanted status
-on_told asked before after request wanted status a few on_big on_read (usage index b is) = absurd cc
-on_told asked before after request wanted status a few on_big on_read (later word b is) = absurd cc
-on_told asked before after request wanted status a few on_big on_read (many other b more is) =
+on_told asked before after request wanted status a few on_long on_big on_read (usage index b is stays) = absurd cc
+on_told asked before after request wanted status a few on_long on_big on_read (later word b is stays) = absurd cc
+on_told asked before after request wanted status a few on_long on_big on_read (many other b more is stays) =
     let one = same_request asked request other a b in
     let again : most_files < length request.files = subst (λ (r : Request). most_files < length r.files) one more in
     absurd (omega arith)
-on_told asked before after request wanted status a few on_big on_read (fault other word b within at is) = fetch word is
-on_told asked before after request wanted status a few on_big on_read (overlong other word b within at is) = long word is
-on_told asked before after request wanted status a few on_big on_read (too_big other b within big is) =
+on_told asked before after request wanted status a few on_long on_big on_read (fault other word b within at is) = fetch word is
+on_told asked before after request wanted status a few on_long on_big on_read (overlong other word b within at is) =
+    let one = same_request asked request other a b in
+    let first : IsFirstLong before request.files word =
+    subst (λ (r : Request). IsFirstLong before r.files word) one (is_first_long before after (paths_of other) word at) in
+    subst (λ (s : Status). Same wanted s) (sym is) (on_long word first)
+on_told asked before after request wanted status a few on_long on_big on_read (too_big other b within big is stays) =
     let one = same_request asked request other a b in
     subst (λ (s : Status). Same wanted s) (sym is) (on_big (subst (λ (r : Request). IsTooBig before r.files) one big))
-on_told asked before after request wanted status a few on_big on_read (on_files other fs b within held hold fits on) =
+on_told asked before after request wanted status a few on_long on_big on_read (on_files other fs b within held hold fits on stays) =
     let one = same_request asked request other a b in
     same (on_read fs (subst (λ (r : Request). HoldsAll before.files r.files fs) one held) hold fits (subst (λ (r : Request). OnFiles r.target fs status) one on))
 
@@ -317,8 +319,19 @@ pub too_big_so : (asked : Asked) (before after : ShelfState) (result : Status) (
     → UnlessOutside (answers.Limit Bytes most_bytes) result
 too_big_so asked before after result old new outcome request a few tells big =
     unless_outside asked before after result (answers.Limit Bytes most_bytes) old new outcome
-    (λ status answer. on_told asked before after request (answers.Limit Bytes most_bytes) status a few (λ is. same refl)
+    (λ status answer. on_told asked before after request (answers.Limit Bytes most_bytes) status a few
+    (λ word long. absurd (long_is_not_big before request.files word tells long big)) (λ is. same refl)
     (λ gs held hold fits on. absurd (not_too_big before request.files gs tells held fits big)) answer)
+
+pub overlong_so : (asked : Asked) (before after : ShelfState) (result : Status) (old new : SinkState) → Outcome asked before after result old new
+    → (request : Request) (word : ℕ) → asked ≡ Ok request → length request.files ≤ most_files → Tells before → IsFirstLong before (paths_of request) word
+    → UnlessOutside (answers.TooLong word) result
+overlong_so asked before after result old new outcome request word a few tells u =
+    unless_outside asked before after result (answers.TooLong word) old new outcome
+    (λ status answer. on_told asked before after request (answers.TooLong word) status a few
+    (λ other long. same (ap answers.TooLong (same_long before request.files word other tells u long)))
+    (λ big. absurd (long_is_not_big before request.files word tells u big))
+    (λ gs held hold fits on. absurd (none_is_long before request.files gs word tells held u)) answer)
 
 read_so : (target : Target) (fs : List File) (classes : List ClassRecord) (wanted status : Status) → Decided → HoldBytes fs → AreClasses fs classes
     → (OnClasses target classes status → status ≡ wanted) → OnFiles target fs status → status ≡ wanted
@@ -349,6 +362,7 @@ on_fit : (asked : Asked) (before after : ShelfState) (result wanted : Status) (o
 on_fit asked before after result wanted old new outcome target fs asks each =
     unless_outside asked before after result wanted old new outcome
     (λ status answer. on_told asked before after asks.request wanted status asks.is_asked asks.few
+    (λ word long. absurd (none_is_long before asks.request.files fs word asks.tells asks.held long))
     (λ big. absurd (not_too_big before asks.request.files fs asks.tells asks.held asks.fits big))
     (λ gs held hold less on.
     let one = same_files before asks.request.files fs gs asks.tells asks.held held in

@@ -1,5 +1,5 @@
 -- Files that are fetched and read one after another.
-use Rattle.std.proofs.Common.{◌≡◌, ℕ, ◌+◌, ◌<◌, ◌≤◌, List, [], ◌∷◌, ◌++◌, length, get_or, take, Option, refl, sym, ap, subst, ◌∙◌, inl, inr, arith}
+use Rattle.std.proofs.Common.{◌≡◌, ℕ, ◌+◌, ◌<◌, ◌≤◌, List, [], ◌∷◌, ◌++◌, length, get_or, take, refl, sym, ap, subst, ◌∙◌, arith}
 use Rattle.std.specs.List.{AllZip}
 use Rattle.std.proofs.lemmas.List.{take_more}
 use Rattle.std.proofs.lemmas.List.Sums.{sum_by-append}
@@ -9,10 +9,10 @@ use Rattle.class_pool.specs.Place.{IsBytes}
 use Rattle.cost_words.specs.declared.command.PathWord.{PathWord}
 use Rattle.class_reader.specs.declared.class.ClassRecord.{ClassRecord}
 use Rattle.class_reader.specs.ClassFile.{IsClassFile}
-use Rattle.ports.specs.Shelf.{ShelfState, Holds, HoldsLonger, Blamed, Blames, Rises}
+use Rattle.ports.specs.Shelf.{ShelfState, Holds, longest_file}
 use Rattle.analyser.specs.declared.fetching.File.{File}
 use Rattle.analyser.specs.declared.status.FaultKind.{FaultKind}
-use Rattle.analyser.specs.Files.{HoldBytes, HoldsAll, total, most_bytes, IsFailedAt, IsFailed, IsOverlongAt, IsOverlong, IsTooBig}
+use Rattle.analyser.specs.Files.{HoldBytes, HoldsAll, total, most_bytes, IsTooBig}
 use Rattle.analyser.specs.Classes.{AreClasses, IsFault, IsBadClass}
 
 pub AllZip-push : {A B : Type 0} (R : A → B → Type 0) (xs : List A) (ys : List B) (x : A) (y : B) → AllZip R xs ys → R x y → AllZip R (xs ++ x ∷ []) (ys ++ y ∷ [])
@@ -27,85 +27,61 @@ AllByRecursion-push P (a ∷ xs) x all here = (all.0, AllByRecursion-push P xs x
 
 -- the files of the paths so far, from a shelf that was so first and is so now
 pub record Fetching (first now : ShelfState) (paths : List PathWord) (files : List File) (sum : ℕ) : Type 0 where
-  pub kept : now.files ≡ first.files
-  pub faults : first.faults.count ≤ now.faults.count
-  pub longs : now.longs ≡ first.longs
+  pub same : now ≡ first
   pub held : HoldsAll first.files paths files
   pub is_sum : sum ≡ total files
   pub fits : total files ≤ most_bytes
   pub bytes : HoldBytes files
 
--- one file more
-pub fetched_more : (first now after : ShelfState) (paths : List PathWord) (files : List File) (sum i : ℕ) (path : PathWord) (file : File)
-    → Fetching first now (take i paths) files sum → i < length paths → path ≡ get_or paths i path → after.files ≡ now.files → now.faults.count ≤ after.faults.count
-    → after.longs ≡ now.longs → file.word ≡ path.index → Holds now.files path.path file.bytes → IsBytes file.bytes → sum + length file.bytes ≤ most_bytes
-    → Fetching first after (take (i + 1) paths) (files ++ file ∷ []) (sum + length file.bytes)
-fetched_more first now after paths files sum i path file so within is kept faults longs word held are fits =
+-- the file that is fetched next is held too
+held_more : (first now : ShelfState) (paths : List PathWord) (files : List File) (sum i : ℕ) (path : PathWord) (file : File)
+    → Fetching first now (take i paths) files sum → i < length paths → path ≡ get_or paths i path → file.word ≡ path.index → Holds now.files path.path file.bytes
+    → length file.bytes ≤ longest_file → HoldsAll first.files (take (i + 1) paths) (files ++ file ∷ [])
+held_more first now paths files sum i path file so within is word held short =
     let more : take (i + 1) paths ≡ take i paths ++ path ∷ [] = take_more paths i path within ∙ ap (λ (p : PathWord). take i paths ++ p ∷ []) (sym is) in
-    let here : Holds first.files path.path file.bytes = subst (λ (told : Option (List (List ℕ × List ℕ))). Holds told path.path file.bytes) so.kept held in
+    let here : Holds first.files path.path file.bytes = subst (λ (s : ShelfState). Holds s.files path.path file.bytes) so.same held in
     let all : HoldsAll first.files (take i paths ++ path ∷ []) (files ++ file ∷ []) =
-    AllZip-push (λ (p : PathWord) (f : File). (f.word ≡ p.index) × Holds first.files p.path f.bytes) (take i paths) files path file so.held (word, here) in
-    let sums = sum_by-append (λ (f : File). length f.bytes) files (file ∷ []) in
-    let bytes : total (files ++ file ∷ []) ≡ total files + length file.bytes = omega (arith, sums) in
+    AllZip-push (λ (p : PathWord) (f : File). (f.word ≡ p.index) × Holds first.files p.path f.bytes × (length f.bytes ≤ longest_file)) (take i paths) files path file so.held
+    (word, here, short) in
+    rw more all
+
+total_more : (files : List File) (file : File) → total (files ++ file ∷ []) ≡ total files + length file.bytes
+total_more files file = let sums = sum_by-append (λ (f : File). length f.bytes) files (file ∷ []) in omega (arith, sums)
+
+-- one file more
+fetched_more : (first now after : ShelfState) (paths : List PathWord) (files : List File) (sum i : ℕ) (path : PathWord) (file : File)
+    → Fetching first now (take i paths) files sum → i < length paths → path ≡ get_or paths i path → after ≡ now → file.word ≡ path.index
+    → Holds now.files path.path file.bytes → length file.bytes ≤ longest_file → IsBytes file.bytes → sum + length file.bytes ≤ most_bytes
+    → Fetching first after (take (i + 1) paths) (files ++ file ∷ []) (sum + length file.bytes)
+fetched_more first now after paths files sum i path file so within is same word held short are fits =
+    let bytes = total_more files file in
     record {
-      kept = kept ∙ so.kept;
-      faults = omega (arith, so.faults);
-      longs = longs ∙ so.longs;
-      held = rw more all;
+      same = same ∙ so.same;
+      held = held_more first now paths files sum i path file so within is word held short;
       is_sum = omega (arith, so.is_sum, bytes);
       fits = omega (arith, so.is_sum, bytes);
       bytes = AllByRecursion-push (λ (f : File). IsBytes f.bytes) files file so.bytes are;
     }
 
 pub fetched_next : (first now after : ShelfState) (paths : List PathWord) (files pushed : List File) (sum length_of i : ℕ) (path : PathWord) (file : File)
-    → Fetching first now (take i paths) files sum → i < length paths → path ≡ get_or paths i path → after.files ≡ now.files → now.faults.count ≤ after.faults.count
-    → after.longs ≡ now.longs → file.word ≡ path.index → Holds now.files path.path file.bytes → IsBytes file.bytes → pushed ≡ files ++ file ∷ [] → length_of ≡ length file.bytes
+    → Fetching first now (take i paths) files sum → i < length paths → path ≡ get_or paths i path → after ≡ now → file.word ≡ path.index
+    → Holds now.files path.path file.bytes → length file.bytes ≤ longest_file → IsBytes file.bytes → pushed ≡ files ++ file ∷ [] → length_of ≡ length file.bytes
     → sum + length_of ≤ most_bytes → Fetching first after (take (i + 1) paths) pushed (sum + length_of)
-fetched_next first now after paths files pushed sum length_of i path file so within is kept faults longs word held are is_pushed is_length fits =
+fetched_next first now after paths files pushed sum length_of i path file so within is same word held short are is_pushed is_length fits =
     let less : sum + length file.bytes ≤ most_bytes = omega (arith, fits, is_length) in
-    rw (is_pushed, is_length) (fetched_more first now after paths files sum i path file so within is kept faults longs word held are less)
+    rw (is_pushed, is_length) (fetched_more first now after paths files sum i path file so within is same word held short are less)
 
 -- the sum passes
 pub fetched_too_much : (first now : ShelfState) (paths : List PathWord) (files : List File) (sum i : ℕ) (path : PathWord) (file : File)
     → Fetching first now (take i paths) files sum → i < length paths → path ≡ get_or paths i path → file.word ≡ path.index → Holds now.files path.path file.bytes
-    → most_bytes < sum + length file.bytes → IsTooBig first paths
-fetched_too_much first now paths files sum i path file so within is word held big =
-    let more : take (i + 1) paths ≡ take i paths ++ path ∷ [] = take_more paths i path within ∙ ap (λ (p : PathWord). take i paths ++ p ∷ []) (sym is) in
-    let here : Holds first.files path.path file.bytes = subst (λ (told : Option (List (List ℕ × List ℕ))). Holds told path.path file.bytes) so.kept held in
-    let all : HoldsAll first.files (take i paths ++ path ∷ []) (files ++ file ∷ []) =
-    AllZip-push (λ (p : PathWord) (f : File). (f.word ≡ p.index) × Holds first.files p.path f.bytes) (take i paths) files path file so.held (word, here) in
-    let sums = sum_by-append (λ (f : File). length f.bytes) files (file ∷ []) in
-    let bytes : total (files ++ file ∷ []) ≡ total files + length file.bytes = omega (arith, sums) in
-    record { count = i + 1; files = files ++ file ∷ []; held = rw more all; big = omega (arith, so.is_sum, bytes) }
-
-rises_since : (a b c : ℕ) → a ≤ b → Rises b c → Rises a c
-rises_since a b c le (inl more) = inl (omega arith)
-rises_since a b c le (inr end) = inr end
-
-pub failed_since : (first now after : ShelfState) (paths : List PathWord) (files : List File) (sum i word : ℕ) (path : PathWord)
-    → Fetching first now (take i paths) files sum → i < length paths → path ≡ get_or paths i path → IsFailedAt now after path word → IsFailed first after paths word
-failed_since first now after paths files sum i word path so within is at =
+    → length file.bytes ≤ longest_file → most_bytes < sum + length file.bytes → IsTooBig first paths
+fetched_too_much first now paths files sum i path file so within is word held short big =
+    let bytes = total_more files file in
     record {
-      place = i;
-      path = path;
-      stands = slice_get_read paths (length paths) i path refl within is;
-      failed = record { is_word = at.is_word; blames = (rises_since first.faults.count now.faults.count after.faults.count so.faults at.blames.0, at.blames.1) };
-      front = record { files = files; held = so.held; fits = so.fits };
-    }
-
-pub overlong_since : (first now after : ShelfState) (paths : List PathWord) (files : List File) (sum i word : ℕ) (path : PathWord)
-    → Fetching first now (take i paths) files sum → i < length paths → path ≡ get_or paths i path → IsOverlongAt now after path word → IsOverlong first after paths word
-overlong_since first now after paths files sum i word path so within is at =
-    record {
-      place = i;
-      path = path;
-      stands = slice_get_read paths (length paths) i path refl within is;
-      overlong = record {
-        is_word = at.is_word;
-        blames = subst (λ (b : Blamed). Blames b after.longs path.path) so.longs at.blames;
-        longer = subst (λ (told : Option (List (List ℕ × List ℕ))). HoldsLonger told path.path) so.kept at.longer;
-      };
-      front = record { files = files; held = so.held; fits = so.fits };
+      count = i + 1;
+      files = files ++ file ∷ [];
+      held = held_more first now paths files sum i path file so within is word held short;
+      big = omega (arith, so.is_sum, bytes);
     }
 
 -- ---- the classes

@@ -3,3 +3,4 @@ pub mod Told
 pub mod Worlds
 pub mod Answering
 pub mod Causes
+pub mod Calls

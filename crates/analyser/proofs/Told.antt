@@ -7,11 +7,11 @@ use Rattle.class_reader.specs.declared.class.ClassRecord.{ClassRecord}
 use Rattle.class_pool.specs.Place.{IsBytes}
 use Rattle.class_reader.specs.ClassFile.{IsClassFile}
 use Rattle.class_reader.specs.FirstFault.{IsDecided}
-use Rattle.ports.specs.Shelf.{ShelfState}
+use Rattle.ports.specs.Shelf.{ShelfState, HoldsLonger, bytes_at, longest_file}
 use Rattle.analyser.specs.declared.fetching.File.{File}
 use Rattle.analyser.specs.declared.status.FaultKind.{FaultKind}
 use Rattle.analyser.specs.declared.status.Status.TheVariants as answers
-use Rattle.analyser.specs.Files.{HoldBytes, HoldsAll, Tells, IsTooBig, total, most_bytes}
+use Rattle.analyser.specs.Files.{HoldBytes, HoldsAll, Tells, IsFetched, IsOverlong, IsFirstLong, IsTooBig, total, most_bytes}
 use Rattle.analyser.specs.Classes.{AreClasses, IsFault, IsBadClass, told_of}
 
 abbrev Told : Type 0
@@ -61,6 +61,107 @@ not_too_big shelf paths files tells h fits big =
     let same : big.files ≡ take big.count files = same_files shelf (take big.count paths) (take big.count files) big.files tells front big.held in
     let bytes : total big.files ≡ total (take big.count files) = ap total same in
     absurd (omega (arith, big.big, bytes, sum_by-take-le (λ (f : File). length f.bytes) files big.count))
+
+pub compared : (m n : ℕ) → ((m < n) ⊎ (n < m)) ⊎ (m ≡ n)
+compared zero zero = inr refl
+compared zero (suc n) = inl (inl (omega arith))
+compared (suc m) zero = inl (inr (omega arith))
+compared (suc m) (suc n) = elim (compared m n) [
+  | inl apart ↦ elim apart [ inl less ↦ inl (inl (omega arith)) | inr more ↦ inl (inr (omega arith)) ]
+  | inr same ↦ inr (ap suc same)
+]
+
+-- ---- files that are too long
+
+-- where a short file is held no longer one is
+short_is_not_long : (told : Told) (path : List ℕ) (bytes : List ℕ) → bytes_at told path ≡ Some bytes → length bytes ≤ longest_file → HoldsLonger (Some told) path → ⊥
+short_is_not_long told path bytes held short longer =
+    let same : longer.0 ≡ bytes = some_is longer.0 bytes (sym longer.1 ∙ held) in
+    let lengths : length longer.0 ≡ length bytes = ap length same in
+    let more : longest_file < length longer.0 = longer.2 in
+    absurd (omega (arith, short, lengths, more))
+
+-- where files are held at the first paths, so many, none of these has a longer one
+front_is_short : (told : Told) (paths : List PathWord) (files : List File) (n k : ℕ) (path : PathWord) → HoldsAll (Some told) (take n paths) files → k < n
+    → slice_get paths k ≡ Some path → HoldsLonger (Some told) path.path → ⊥
+front_is_short told paths files zero k path h less at longer = absurd (omega arith)
+front_is_short told [] files (suc n) k path h less at longer = absurd cc
+front_is_short told (p ∷ paths) [] (suc n) k path h less at longer = absurd h
+front_is_short told (p ∷ paths) (f ∷ files) (suc n) zero path h less at longer =
+    let same : p ≡ path = cc in
+    short_is_not_long told p.path f.bytes h.0.1 h.0.2 (subst (λ (q : PathWord). HoldsLonger (Some told) q.path) (sym same) longer)
+front_is_short told (p ∷ paths) (f ∷ files) (suc n) (suc k) path h less at longer = front_is_short told paths files n k path h.1 (omega arith) at longer
+
+all_are_short : (told : Told) (paths : List PathWord) (files : List File) (k : ℕ) (path : PathWord) → HoldsAll (Some told) paths files → slice_get paths k ≡ Some path
+    → HoldsLonger (Some told) path.path → ⊥
+all_are_short told [] files k path h at longer = absurd cc
+all_are_short told (p ∷ paths) [] k path h at longer = absurd h
+all_are_short told (p ∷ paths) (f ∷ files) zero path h at longer =
+    let same : p ≡ path = cc in
+    short_is_not_long told p.path f.bytes h.0.1 h.0.2 (subst (λ (q : PathWord). HoldsLonger (Some told) q.path) (sym same) longer)
+all_are_short told (p ∷ paths) (f ∷ files) (suc k) path h at longer = all_are_short told paths files k path h.1 at longer
+
+longer_told : (shelf : ShelfState) (told : Told) (path : List ℕ) → shelf.files ≡ Some told → HoldsLonger shelf.files path → HoldsLonger (Some told) path
+longer_told shelf told path is h = subst (λ (t : Option Told). HoldsLonger t path) is h
+
+pub is_first_long : (before after : ShelfState) (paths : List PathWord) (word : ℕ) → IsOverlong before after paths word → IsFirstLong before paths word
+is_first_long before after paths word at =
+    record { place = at.place; path = at.path; stands = at.stands; is_word = at.overlong.is_word; longer = at.overlong.longer; front = at.front }
+
+-- files that are held have none that is too long
+pub none_is_long : (shelf : ShelfState) (paths : List PathWord) (files : List File) (word : ℕ) → Tells shelf → HoldsAll shelf.files paths files → IsFirstLong shelf paths word → ⊥
+none_is_long shelf paths files word tells h u =
+    all_are_short tells.told paths files u.place u.path (given shelf tells.told paths files tells.is_told h) u.stands
+    (longer_told shelf tells.told u.path.path tells.is_told u.longer)
+
+none_before : (shelf : ShelfState) (paths : List PathWord) (files : List File) (n word : ℕ) → Tells shelf → HoldsAll shelf.files (take n paths) files
+    → (u : IsFirstLong shelf paths word) → u.place < n → ⊥
+none_before shelf paths files n word tells h u less =
+    front_is_short tells.told paths files n u.place u.path (given shelf tells.told (take n paths) files tells.is_told h) less u.stands
+    (longer_told shelf tells.told u.path.path tells.is_told u.longer)
+
+take_less : {A : Type 0} (m n : ℕ) (xs : List A) → m ≤ n → take m (take n xs) ≡ take m xs
+take_less zero n xs less = refl
+take_less (suc m) zero xs less = absurd (omega arith)
+take_less (suc m) (suc n) [] less = refl
+take_less (suc m) (suc n) (x ∷ xs) less = ap (λ ys. x ∷ ys) (take_less m n xs (omega arith))
+
+-- files that are fetched are fewer than those that are too big together
+big_is_behind : (shelf : ShelfState) (paths : List PathWord) (place : ℕ) → Tells shelf → IsFetched shelf paths place → (big : IsTooBig shelf paths) → big.count ≤ place → ⊥
+big_is_behind shelf paths place tells front big less =
+    let some : HoldsAll shelf.files (take big.count (take place paths)) (take big.count front.files) = held_front shelf.files big.count (take place paths) front.files front.held in
+    let held : HoldsAll shelf.files (take big.count paths) (take big.count front.files) =
+    subst (λ (ps : List PathWord). HoldsAll shelf.files ps (take big.count front.files)) (take_less big.count place paths less) some in
+    let same : big.files ≡ take big.count front.files = same_files shelf (take big.count paths) (take big.count front.files) big.files tells held big.held in
+    let bytes : total big.files ≡ total (take big.count front.files) = ap total same in
+    let fits = front.fits in
+    absurd (omega (arith, big.big, bytes, fits, sum_by-take-le (λ (f : File). length f.bytes) front.files big.count))
+
+-- files that are too big together stand before one that is too long, or behind it: not both
+pub long_is_not_big : (shelf : ShelfState) (paths : List PathWord) (word : ℕ) → Tells shelf → IsFirstLong shelf paths word → IsTooBig shelf paths → ⊥
+long_is_not_big shelf paths word tells u big = elim (compared u.place big.count) [
+  | inl apart ↦ elim apart [
+    | inl less ↦ none_before shelf paths big.files big.count word tells big.held u less
+    | inr more ↦ big_is_behind shelf paths u.place tells u.front big (omega (arith, more))
+  ]
+  | inr same ↦ big_is_behind shelf paths u.place tells u.front big (omega (arith, same))
+]
+
+some_path : (p q : PathWord) → Some p ≡ Some q → p ≡ q
+some_path p q e = cc
+
+-- one file is the first that is too long
+pub same_long : (shelf : ShelfState) (paths : List PathWord) (word other : ℕ) → Tells shelf → IsFirstLong shelf paths word → IsFirstLong shelf paths other → other ≡ word
+same_long shelf paths word other tells u v = elim (compared u.place v.place) [
+  | inl apart ↦ elim apart [
+    | inl less ↦ absurd (none_before shelf paths v.front.files v.place word tells v.front.held u less)
+    | inr more ↦ absurd (none_before shelf paths u.front.files u.place other tells u.front.held v more)
+  ]
+  | inr same ↦
+      let at : slice_get paths u.place ≡ Some v.path = rw same v.stands in
+      let one : v.path ≡ u.path = some_path v.path u.path (sym at ∙ u.stands) in
+      v.is_word ∙ ap (λ (p : PathWord). p.index) one ∙ sym u.is_word
+]
 
 -- ---- the classes
 
@@ -113,15 +214,6 @@ pub no_bad_class : (files : List File) (cs : List ClassRecord) (word offset : �
     → IsBadClass files word offset kind → ⊥
 no_bad_class files cs word offset kind decided hold are bad =
     all_is_read files cs bad.place bad.file are bad.stands (no_class bad.file.bytes offset kind decided (bytes_of files bad.place bad.file hold bad.stands) bad.is_fault)
-
-pub compared : (m n : ℕ) → ((m < n) ⊎ (n < m)) ⊎ (m ≡ n)
-compared zero zero = inr refl
-compared zero (suc n) = inl (inl (omega arith))
-compared (suc m) zero = inl (inr (omega arith))
-compared (suc m) (suc n) = elim (compared m n) [
-  | inl apart ↦ elim apart [ inl less ↦ inl (inl (omega arith)) | inr more ↦ inl (inr (omega arith)) ]
-  | inr same ↦ inr (ap suc same)
-]
 
 some_told : (p q : ℕ × FaultKind) → Some p ≡ Some q → p ≡ q
 some_told p q e = cc

@@ -62,8 +62,7 @@ fn fetch_one<F: Shelf>(shelf: &mut F, path: &PathWord) -> Result<File, Stop>
     ensures failed { (word : ℕ) → result ≡ Err (Stop.Failed word) → IsFailedAt (F.meaning shelf.old) (F.meaning shelf.new) path.now word }
     ensures too_long { (word : ℕ) → result ≡ Err (Stop.TooLong word) → IsOverlongAt (F.meaning shelf.old) (F.meaning shelf.new) path.now word }
     ensures not_too_big { result ≡ Err Stop.TooBig → ⊥ }
-    ensures faults { (F.meaning shelf.old).faults.count ≤ (F.meaning shelf.new).faults.count }
-    ensures longs { IfOk result (λ _. (F.meaning shelf.new).longs ≡ (F.meaning shelf.old).longs) }
+    ensures same { IfOk result (λ _. F.meaning shelf.new ≡ F.meaning shelf.old) }
 {
     match shelf.fetch(path.path.as_str()) {
         Ok(bytes) => {
@@ -93,6 +92,8 @@ pub fn fetch_all<F: Shelf>(
     ensures failed { (word : ℕ) → result ≡ Err (Stop.Failed word) → IsFailed (F.meaning shelf.old) (F.meaning shelf.new) paths.now word }
     ensures too_long { (word : ℕ) → result ≡ Err (Stop.TooLong word) → IsOverlong (F.meaning shelf.old) (F.meaning shelf.new) paths.now word }
     ensures too_big { result ≡ Err Stop.TooBig → IsTooBig (F.meaning shelf.old) paths.now }
+    ensures same { IfOk result (λ _. F.meaning shelf.new ≡ F.meaning shelf.old) }
+    ensures same_too_big { result ≡ Err Stop.TooBig → F.meaning shelf.new ≡ F.meaning shelf.old }
 {
     let mut files = Vec::new(alloc);
     let mut sum = 0;

@@ -1,4 +1,4 @@
-ghost use Rattle.std.specs.Prelude.{◌≡◌, ◌≢◌, ◌<◌, ◌≤◌, ◌^◌, ℕ, List, Some, Ok, Err, length, false, IfOk};
+ghost use Rattle.std.specs.Prelude.{◌≡◌, ◌≢◌, ◌<◌, ◌≤◌, ◌^◌, ℕ, List, Some, Ok, Err, length, true, false, IfOk};
 ghost use Rattle.class_pool.specs.declared.target.Target as asked_for;
 ghost use Rattle.class_reader.specs.declared.class.ClassRecord as found;
 ghost use Rattle.op_table.specs.declared.construct.Construct as against;
@@ -14,19 +14,19 @@ ghost use Rattle.cost_words.specs.declared.fault.WordFault.TheVariants.{Wrong};
 ghost use Rattle.cost_words.specs.declared.fault.WordKind as kinds;
 ghost use Rattle.cost_words.specs.Reading.{words_of};
 ghost use Rattle.cost_words.specs.Grammar.{command_of};
-ghost use Rattle.ports.specs.Sink.{Appends};
+ghost use Rattle.ports.specs.Sink.{Appends, IsCalledOnce, IsCalledAtMostOnce};
 ghost use Rattle.analyser.specs.declared.fetching.File as fetched;
 ghost use Rattle.analyser.specs.declared.status.FaultKind as against_class;
 ghost use Rattle.analyser.specs.declared.status.LimitKind as limits;
 ghost use Rattle.analyser.specs.declared.words.Request as requests;
 ghost use Rattle.analyser.specs.Words.{request_of, paths_of};
-ghost use Rattle.analyser.specs.Files.{Tells, IsTooBig, total, most_files, most_bytes};
+ghost use Rattle.analyser.specs.Files.{Tells, IsFirstLong, IsTooBig, total, most_files, most_bytes};
 ghost use Rattle.analyser.specs.Classes.{AreClasses, IsBadClass};
 ghost use Rattle.analyser.specs.Answer.{answer_on, instruction_cost, is_too_great};
 ghost use Rattle.analyser.specs.Report.{report_of};
 ghost use Rattle.analyser.specs.Headline.{HasBound};
 ghost use Rattle.analyser.specs.Causes.{IsUsage, IsLimit, IsFetchFault, IsTooLong, IsNotYet, HasBadClass, HasBadWorld, HasNoMethod, IsUnsupported};
-ghost use Rattle.analyser.specs.Answers.{IsAnswer, OnClasses, OnFiles, WasPut, Outcome, IsOutFault, IsReported, UnlessNotPut, UnlessOutside, AsksFor};
+ghost use Rattle.analyser.specs.Answers.{IsAnswer, OnClasses, OnFiles, WasPut, Outcome, IsOutFault, IsReported, IsNoFetchFault, AsksForNone, IsOfWords, UnlessNotPut, UnlessOutside, AsksFor};
 
 use crate::answer::answer_on;
 use crate::classes::{Unread, classes_of};
@@ -45,7 +45,8 @@ use world::World;
 const MOST_FILES: usize = 1_024;
 
 fn is_memory(fault: &WorldFault) -> bool
-    ensures { result ≡ false → fault.now ≢ Memory }
+    ensures yes { result ≡ true → fault.now ≡ Memory }
+    ensures no { result ≡ false → fault.now ≢ Memory }
 {
     matches!(fault, WorldFault::Memory)
 }
@@ -84,6 +85,7 @@ fn on_request<F: Shelf>(
     shelf: &mut F,
 ) -> Result<Status, AllocError>
     ensures answer { IfOk result (IsAnswer (Ok request) (F.meaning shelf.old) (F.meaning shelf.new)) }
+    ensures unasked { most_files < length request.files → shelf.new ≡ shelf.old }
     ensures kept { (F.meaning shelf.new).files ≡ (F.meaning shelf.old).files }
 {
     if request.files.len() > MOST_FILES {
@@ -106,6 +108,7 @@ fn on_request<F: Shelf>(
 
 fn answer_to<F: Shelf>(alloc: Global, words: &[String], shelf: &mut F) -> Result<Status, AllocError>
     ensures answer { IfOk result (IsAnswer (request_of (words_of words.now)) (F.meaning shelf.old) (F.meaning shelf.new)) }
+    ensures unasked { AsksForNone (request_of (words_of words.now)) → shelf.new ≡ shelf.old }
     ensures kept { (F.meaning shelf.new).files ≡ (F.meaning shelf.old).files }
 {
     match request_of(alloc, words)? {
@@ -135,6 +138,7 @@ fn answer_and_put<F: Shelf, S: Sink>(
     out: &mut S,
 ) -> Status
     ensures outcome { Outcome (request_of (words_of words.now)) (F.meaning shelf.old) (F.meaning shelf.new) result (S.meaning out.old) (S.meaning out.new) }
+    ensures unasked { AsksForNone (request_of (words_of words.now)) → shelf.new ≡ shelf.old }
     ensures kept { (F.meaning shelf.new).files ≡ (F.meaning shelf.old).files }
 {
     match answer_to(alloc, words, shelf) {
@@ -181,15 +185,17 @@ pub fn costa<F: Shelf, S: Sink>(
     ensures memory { result ≡ Status.Memory → (S.meaning out.new).content ≡ (S.meaning out.old).content }
 
     // And each cause has its answer, unless the outside fails or memory runs out: the first wrong word, the
-    // first that asks for what isn't built, too many files, and, where the shelf tells what it holds, too
-    // many bytes, the first file that is no class, the first fault of classes that are no world, and the answer on
-    // the world.
+    // first that asks for what isn't built, too many files, and, where the shelf tells what it holds, the first file
+    // that is too long, too many bytes, the first file that is no class, the first fault of classes that are no world,
+    // and the answer on the world.
     ensures misused { (kind : kinds.WordKind) (index : ℕ) → command_of (words_of words.now) ≡ Err (Wrong kind index) → UnlessNotPut (Status.Usage index) result }
     ensures later { (word : ℕ) → request_of (words_of words.now) ≡ Err (Status.NotYet word) → UnlessNotPut (Status.NotYet word) result }
     ensures many { (request : requests.Request) → request_of (words_of words.now) ≡ Ok request → most_files < length request.files
         → UnlessNotPut (Status.Limit LimitKind.Files most_files) result }
     ensures too_big { (request : requests.Request) → request_of (words_of words.now) ≡ Ok request → length request.files ≤ most_files
         → Tells (F.meaning shelf.old) → IsTooBig (F.meaning shelf.old) (paths_of request) → UnlessOutside (Status.Limit LimitKind.Bytes most_bytes) result }
+    ensures overlong { (request : requests.Request) (word : ℕ) → request_of (words_of words.now) ≡ Ok request → length request.files ≤ most_files
+        → Tells (F.meaning shelf.old) → IsFirstLong (F.meaning shelf.old) (paths_of request) word → UnlessOutside (Status.TooLong word) result }
     ensures unread { (target : asked_for.Target) (files : List fetched.File) (word offset : ℕ) (kind : against_class.FaultKind)
         → AsksFor (request_of (words_of words.now)) (F.meaning shelf.old) target files → IsBadClass files word offset kind → UnlessOutside (Status.BadClass word offset kind) result }
     ensures no_world { (target : asked_for.Target) (files : List fetched.File) (classes : List found.ClassRecord) (fault : against_world.WorldFault)
@@ -205,9 +211,19 @@ pub fn costa<F: Shelf, S: Sink>(
         → method_named (world_of classes) target ≡ Some m → flow_of (world_of classes) target ≡ Ok program
         → is_too_great program ≡ false → UnlessOutside (Status.Bound (cost_of instruction_cost program m)) result }
 
-    // The report of an answer was put, whole.
+    // The report of an answer was put, whole and in one call of the sink, which isn't called besides. It fails only
+    // where the answer says so.
     ensures reported { IsReported result → Appends (S.meaning out.old).content (report_of result) (S.meaning out.new).content }
+    ensures once { (result ≡ Status.Memory → ⊥) → IsCalledOnce (S.meaning out.old) (S.meaning out.new) }
+    ensures at_most_once { IsCalledAtMostOnce (S.meaning out.old) (S.meaning out.new) }
+    ensures only_out_fault { (result ≡ Status.OutFault → ⊥) → (S.meaning out.new).faults ≡ (S.meaning out.old).faults }
+
+    // What the shelf holds stays. Where the words ask for no file, it isn't touched; else its counts and their
+    // paths stay where no fault of it is told.
     ensures kept { (F.meaning shelf.new).files ≡ (F.meaning shelf.old).files }
+    ensures unasked { AsksForNone (request_of (words_of words.now)) → shelf.new ≡ shelf.old }
+    ensures of_words { IsOfWords result → shelf.new ≡ shelf.old }
+    ensures no_fetch_fault { IsNoFetchFault result → F.meaning shelf.new ≡ F.meaning shelf.old }
 {
     answer_and_put(alloc, words, shelf, out)
 }

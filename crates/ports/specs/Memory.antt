@@ -48,7 +48,7 @@ pub record HeldBytes : Type 0 where
 
 -- what these bytes mean as a sink
 abbrev pub sink_of : HeldBytes → SinkState
-sink_of held = record { content = Some held.bytes; faults = held.faults }
+sink_of held = record { content = Some held.bytes; calls = held.calls; faults = held.faults }
 
 -- how many bytes the call with this number takes before it fails, where it is to fail
 abbrev pub taken_at : List (ℕ × ℕ) → ℕ → Option ℕ

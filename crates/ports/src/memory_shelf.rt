@@ -80,9 +80,10 @@ impl Shelf for MemoryShelf {
         ensures failed { IsErrOf result Fetch.Failed → Blames (shelf_of self.old).faults (shelf_of self.new).faults path.now }
         ensures too_long { IsErrOf result Fetch.TooLong → Blames (shelf_of self.old).longs (shelf_of self.new).longs path.now }
         ensures longer { IsErrOf result Fetch.TooLong → HoldsLonger (shelf_of self.old).files path.now }
-        ensures only_too_long { (IsErrOf result Fetch.TooLong → ⊥) → (shelf_of self.new).longs ≡ (shelf_of self.old).longs }
         ensures faults { (shelf_of self.old).faults.count ≤ (shelf_of self.new).faults.count }
         ensures longs { (shelf_of self.old).longs.count ≤ (shelf_of self.new).longs.count }
+        ensures only_failed { (IsErrOf result Fetch.Failed → ⊥) → (shelf_of self.new).faults ≡ (shelf_of self.old).faults }
+        ensures only_too_long { (IsErrOf result Fetch.TooLong → ⊥) → (shelf_of self.new).longs ≡ (shelf_of self.old).longs }
 
         // What this call answers.
         ensures calls { self.new.calls ≡ next_call self.old.calls }
@@ -92,7 +93,6 @@ impl Shelf for MemoryShelf {
         ensures is_too_long { IsErrOf result Fetch.TooLong → fetched self.old path.now ≡ Err Fetch.TooLong }
         ensures one_fault { IsErrOf result Fetch.Failed → self.new.faults.count ≡ raised self.old.faults.count }
         ensures one_long { IsErrOf result Fetch.TooLong → self.new.longs.count ≡ raised self.old.longs.count }
-        ensures only_failed { (IsErrOf result Fetch.Failed → ⊥) → self.new.faults ≡ self.old.faults }
     {
         self.calls = self.calls.saturating_add(1);
         let blamed = Vec::from_slice(self.alloc, path.as_bytes())?;

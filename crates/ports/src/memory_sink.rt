@@ -1,7 +1,7 @@
 ghost use Rattle.std.specs.Prelude.{◌≡◌, ◌≤◌, ◌++◌, [], Some, None, OnOk, IsErrOf};
 ghost use Rattle.ports.specs.Shelf.{Rises, raised};
-ghost use Rattle.ports.specs.Sink.{Appends, AppendsPrefix};
-ghost use Rattle.ports.specs.Memory.{sink_of, taken_at, taken_of, next_call, next_fail};
+ghost use Rattle.ports.specs.Sink.{Appends, AppendsPrefix, IsCalledOnce};
+ghost use Rattle.ports.specs.Memory.{sink_of, taken_at, taken_of, next_fail};
 
 use crate::sink::{Put, Sink};
 use std::alloc::Global;
@@ -71,20 +71,20 @@ impl Sink for MemorySink {
 
     fn put(&mut self, piece: &[u8]) -> Result<(), Put>
         // As each sink.
+        ensures calls { IsCalledOnce (sink_of self.old) (sink_of self.new) }
         ensures ok { OnOk result (Appends (sink_of self.old).content piece.now (sink_of self.new).content) }
         ensures failed { IsErrOf result Put.Failed → Rises (sink_of self.old).faults (sink_of self.new).faults }
         ensures prefix { IsErrOf result Put.Failed → AppendsPrefix (sink_of self.old).content piece.now (sink_of self.new).content }
         ensures memory { IsErrOf result Put.Memory → (sink_of self.new).content ≡ (sink_of self.old).content }
         ensures faults { (sink_of self.old).faults ≤ (sink_of self.new).faults }
+        ensures only_failed { (IsErrOf result Put.Failed → ⊥) → (sink_of self.new).faults ≡ (sink_of self.old).faults }
 
         // What this call takes, and whether it fails.
-        ensures calls { self.new.calls ≡ next_call self.old.calls }
         ensures fails { self.new.fails ≡ self.old.fails }
         ensures none_fails { OnOk result (next_fail self.old ≡ None) }
         ensures taken { IsErrOf result Put.Failed → self.new.bytes ≡ self.old.bytes ++ taken_of (next_fail self.old) piece.now }
         ensures is_failed { IsErrOf result Put.Failed → next_fail self.old ≡ None → ⊥ }
         ensures one_fault { IsErrOf result Put.Failed → self.new.faults ≡ raised self.old.faults }
-        ensures only_failed { (IsErrOf result Put.Failed → ⊥) → self.new.faults ≡ self.old.faults }
     {
         self.calls = self.calls.saturating_add(1);
         match taken_at(&self.fails, self.calls) {

@@ -8,6 +8,7 @@ use std::marker::Model;
 #[derive(Drop)]
 pub struct OutSink<W> {
     writer: W,
+    calls: u64,
     faults: u64,
 }
 
@@ -17,15 +18,19 @@ impl<W> Model for OutSink<W> {
 
     ghost Value = { SinkState };
 
-    ghost view = { λ s. record { content = None; faults = s.faults } };
+    ghost view = { λ s. record { content = None; calls = s.calls; faults = s.faults } };
 }
 
 impl<W> OutSink<W> {
     /// A sink whose pieces go to this writer. What was written isn't told.
     pub fn new(writer: W) -> Self
-        ensures { result ≡ record { content = None; faults = 0 } }
+        ensures { result ≡ record { content = None; calls = 0; faults = 0 } }
     {
-        OutSink { writer, faults: 0 }
+        OutSink {
+            writer,
+            calls: 0,
+            faults: 0,
+        }
     }
 
     /// How often the writer failed.
@@ -55,6 +60,7 @@ impl<W: Write> Sink for OutSink<W> {
     ghost meaning = { λ s. s };
 
     fn put(&mut self, piece: &[u8]) -> Result<(), Put> {
+        self.calls = self.calls.saturating_add(1);
         if write_whole(&mut self.writer, piece) {
             return Ok(());
         }

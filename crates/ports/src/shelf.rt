@@ -107,9 +107,10 @@ pub trait Shelf {
         // one; and where it tells what it holds, that is more than a file may have.
         ensures too_long { IsErrOf result Fetch.TooLong → Blames (meaning self.old).longs (meaning self.new).longs path.now }
         ensures longer { IsErrOf result Fetch.TooLong → HoldsLonger (meaning self.old).files path.now }
-        ensures only_too_long { (IsErrOf result Fetch.TooLong → ⊥) → (meaning self.new).longs ≡ (meaning self.old).longs }
 
-        // The counts never fall.
+        // The counts never fall, and each stays with its path where the call doesn't answer so.
         ensures faults { (meaning self.old).faults.count ≤ (meaning self.new).faults.count }
-        ensures longs { (meaning self.old).longs.count ≤ (meaning self.new).longs.count };
+        ensures longs { (meaning self.old).longs.count ≤ (meaning self.new).longs.count }
+        ensures only_failed { (IsErrOf result Fetch.Failed → ⊥) → (meaning self.new).faults ≡ (meaning self.old).faults }
+        ensures only_too_long { (IsErrOf result Fetch.TooLong → ⊥) → (meaning self.new).longs ≡ (meaning self.old).longs };
 }

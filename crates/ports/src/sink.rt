@@ -1,6 +1,6 @@
 ghost use Rattle.std.specs.Prelude.{◌≡◌, ◌≤◌, OnOk, IsErrOf};
 ghost use Rattle.ports.specs.Shelf.{Rises};
-ghost use Rattle.ports.specs.Sink.{SinkState, Appends, AppendsPrefix};
+ghost use Rattle.ports.specs.Sink.{SinkState, Appends, AppendsPrefix, IsCalledOnce};
 ghost use Rattle.ports.specs.declared.sink.Put.TheVariants.{Memory};
 
 use std::alloc::{AllocError, AllocFailed};
@@ -32,11 +32,13 @@ impl<T: Drop> From<AllocFailed<T>> for Put {
 
 /// Where the report goes.
 pub trait Sink {
-    /// What it has, where it tells that, and how often it failed so far.
+    /// What it has, where it tells that, and how often it was called and failed so far.
     ghost meaning: { Self → SinkState };
 
     /// Appends the piece.
     fn put(&mut self, piece: &[u8]) -> Result<(), Put>
+        // The call is counted, whatever comes of it.
+        ensures calls { IsCalledOnce (meaning self.old) (meaning self.new) }
         ensures ok { OnOk result (Appends (meaning self.old).content piece.now (meaning self.new).content) }
 
         // It failed only where the count of faults rose; the front of the piece may have been taken.
@@ -44,6 +46,7 @@ pub trait Sink {
         ensures prefix { IsErrOf result Put.Failed → AppendsPrefix (meaning self.old).content piece.now (meaning self.new).content }
         ensures memory { IsErrOf result Put.Memory → (meaning self.new).content ≡ (meaning self.old).content }
 
-        // The count never falls.
-        ensures faults { (meaning self.old).faults ≤ (meaning self.new).faults };
+        // The count of faults never falls, and stays where the call doesn't fail.
+        ensures faults { (meaning self.old).faults ≤ (meaning self.new).faults }
+        ensures only_failed { (IsErrOf result Put.Failed → ⊥) → (meaning self.new).faults ≡ (meaning self.old).faults };
 }

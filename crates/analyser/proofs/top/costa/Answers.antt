@@ -5,7 +5,8 @@ use Rattle.code_flow.proofs.ProgramLaws.{flow_is_program}
 use Rattle.call_costs.proofs.Bounding.{runs_bounded}
 use Rattle.analyser.specs.Words.{asked_of}
 use Rattle.analyser.specs.declared.status.Status.TheVariants as answers
-use Rattle.analyser.proofs.Causes.{Known, has_cause, is_usage, is_out_fault, is_told, refused_so, many_so, too_big_so, is_answered, has_fault, is_unread, is_bounded}
+use Rattle.analyser.proofs.Causes.{Known, has_cause, is_usage, is_out_fault, is_told, refused_so, many_so, too_big_so, overlong_so, is_answered, has_fault, is_unread, is_bounded}
+use Rattle.analyser.proofs.Calls.{once, at_most_once, without_fault, nothing_put, shelf_stays, asks_for_none}
 use Rattle.analyser.proofs.top.costa.Goals as goal
 
 known : Known
@@ -61,6 +62,9 @@ returns-clause-many g c = λ request is more. is_told _ _ _ c.answer_and_put.res
 pub returns-clause-too_big : goal.returns-clause-too_big
 returns-clause-too_big g c = too_big_so _ _ _ c.answer_and_put.result _ _ c.answer_and_put.ensures.outcome
 
+pub returns-clause-overlong : goal.returns-clause-overlong
+returns-clause-overlong g c = overlong_so _ _ _ c.answer_and_put.result _ _ c.answer_and_put.ensures.outcome
+
 pub returns-clause-unread : goal.returns-clause-unread
 returns-clause-unread g c = is_unread _ _ _ c.answer_and_put.result _ _ c.answer_and_put.ensures.outcome decided
 
@@ -72,3 +76,21 @@ returns-clause-answered g c = is_answered _ _ _ c.answer_and_put.result _ _ c.an
 
 pub returns-clause-bounded : goal.returns-clause-bounded
 returns-clause-bounded g c = is_bounded _ _ _ c.answer_and_put.result _ _ known c.answer_and_put.ensures.outcome decided
+
+pub returns-clause-memory : goal.returns-clause-memory
+returns-clause-memory g c = nothing_put _ _ _ c.answer_and_put.result _ _ known c.answer_and_put.ensures.outcome
+
+pub returns-clause-once : goal.returns-clause-once
+returns-clause-once g c = once _ _ _ c.answer_and_put.result _ _ c.answer_and_put.ensures.outcome
+
+pub returns-clause-at_most_once : goal.returns-clause-at_most_once
+returns-clause-at_most_once g c = at_most_once _ _ _ c.answer_and_put.result _ _ c.answer_and_put.ensures.outcome
+
+pub returns-clause-only_out_fault : goal.returns-clause-only_out_fault
+returns-clause-only_out_fault g c = without_fault _ _ _ c.answer_and_put.result _ _ c.answer_and_put.ensures.outcome
+
+pub returns-clause-of_words : goal.returns-clause-of_words
+returns-clause-of_words g c = λ is. c.answer_and_put.ensures.unasked (asks_for_none _ _ _ c.answer_and_put.result _ _ known c.answer_and_put.ensures.outcome is)
+
+pub returns-clause-no_fetch_fault : goal.returns-clause-no_fetch_fault
+returns-clause-no_fetch_fault g c = shelf_stays _ _ _ c.answer_and_put.result _ _ c.answer_and_put.ensures.outcome

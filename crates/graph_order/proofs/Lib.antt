@@ -1,0 +1,4 @@
+pub mod Keys
+pub mod Joins
+pub mod Lines
+pub mod Orders

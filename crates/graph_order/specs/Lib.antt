@@ -1,0 +1,2 @@
+pub mod CalleesFirst
+pub mod inside

@@ -3,7 +3,7 @@ pub mod Dots
 pub mod Meaning
 pub mod Sound
 pub mod Totals
-pub mod Longest
+pub mod LongestRows
 pub mod Places
 pub mod Room
 pub mod Expressions

@@ -81,7 +81,7 @@ impl Comb {
     }
 
     /// Takes all rows out. The places stay.
-    pub(crate) fn clear(&mut self)
+    pub fn clear(&mut self)
         ensures { self.new ≡ zeros (length self.old.coefficients) }
     {
         clear_places(&mut self.places);
@@ -123,7 +123,7 @@ impl Comb {
     }
 
     /// Adds all rows times their factors, in order.
-    pub(crate) fn add_rows(&mut self, rows: &[Row], m: &[(u32, Q)]) -> Result<(), TooWide>
+    pub fn add_rows(&mut self, rows: &[Row], m: &[(u32, Q)]) -> Result<(), TooWide>
         requires numbers { AreRowNumbers (length rows.now) m.now }
         requires room { HaveRoom (length self.old.coefficients) (lins rows.now) }
         ensures ok { OnOk result (rows_added (lins rows.now) self.old m.now ≡ Ok self.new) }

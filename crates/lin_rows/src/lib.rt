@@ -19,4 +19,4 @@ pub use mults::Mults;
 pub use point::{Point, holds};
 pub use row::{Row, Transition};
 pub use sequence::Sequence;
-pub use sums::{combine, reaches};
+pub use sums::{combine, longest, reaches};

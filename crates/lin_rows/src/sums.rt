@@ -15,7 +15,7 @@ use q128::{Q, TooWide};
 use std::alloc::Global;
 
 /// How many places the longest list of coefficients takes.
-fn longest(rows: &[Row]) -> u32
+pub fn longest(rows: &[Row]) -> u32
     ensures value { result ≡ longest_of (lins rows.now) }
     ensures room { HaveRoom result (lins rows.now) }
 {

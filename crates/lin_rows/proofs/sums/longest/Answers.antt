@@ -1,6 +1,6 @@
 use Rattle.std.proofs.Common.{◌≡◌, ◌+◌, max, length, drop, arith, ap, ◌∙◌}
 use Rattle.lin_rows.specs.Rows.{lins, longest_of}
-use Rattle.lin_rows.proofs.Longest.{longest_step, longest_end, longest_room}
+use Rattle.lin_rows.proofs.LongestRows.{longest_step, longest_end, longest_room}
 use Rattle.lin_rows.proofs.sums.longest.Goals as goal
 
 pub loop-row-init : goal.loop-row-init

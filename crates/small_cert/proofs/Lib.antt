@@ -1,0 +1,3 @@
+pub mod Scaling
+pub mod Entailing
+pub mod Proved

@@ -1,0 +1,11 @@
+pub mod Residues
+pub mod Links
+pub mod Best
+pub mod KeyLists
+pub mod Behind
+pub mod Coefficients
+pub mod Digits
+pub mod Matches
+pub mod Searching
+pub mod Tried
+pub mod Numbered

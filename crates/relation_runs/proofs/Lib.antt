@@ -1,0 +1,10 @@
+pub mod Items
+pub mod Depths
+pub mod Values
+pub mod Replaced
+pub mod Terms
+pub mod Setting
+pub mod Prefixes
+pub mod Scoped
+pub mod Nodes
+pub mod TermOutcomes

@@ -1,0 +1,4 @@
+pub mod Bounds
+pub mod Walking
+pub mod Faults
+pub mod Keeping

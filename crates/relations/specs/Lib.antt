@@ -1,0 +1,4 @@
+pub mod Relation
+pub mod Scope
+pub mod Ending
+pub mod inside

@@ -1,0 +1,4 @@
+pub mod Terms
+pub mod Paths
+pub mod Algebra
+pub mod inside

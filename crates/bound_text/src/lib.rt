@@ -1,0 +1,6 @@
+//! The texts of bounds.
+#![tactic(auto)]
+
+mod printing;
+
+pub use printing::print;

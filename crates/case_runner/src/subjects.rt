@@ -47,6 +47,12 @@ pub fn answer(alloc: Global, subject: &str, given: &str, input: &str) -> Result<
     if let Some(text) = number_cases::answer(alloc, subject, input)? {
         return Ok(text);
     }
+    if let Some(text) = relation_cases::answer(alloc, subject, input)? {
+        return Ok(text);
+    }
+    if let Some(text) = bound_cases::answer(alloc, subject, input)? {
+        return Ok(text);
+    }
     if let Some(text) = graph_cases::answer(alloc, subject, given, input)? {
         return Ok(text);
     }

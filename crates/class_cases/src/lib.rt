@@ -6,7 +6,7 @@ mod byte_lists;
 mod classfiles;
 mod constructs;
 mod cursors;
-mod descriptors;
+mod descriptor_texts;
 mod edits;
 mod instructions;
 mod method_flags;
@@ -34,7 +34,7 @@ pub fn answer(
         "classfiles" => classfiles::answer(alloc, given, input)?,
         "constructs" => constructs::answer(alloc, given, input)?,
         "cursors" => cursors::answer(alloc, given, input)?,
-        "descriptors" => descriptors::answer(alloc, given, input)?,
+        "descriptors" => descriptor_texts::answer(alloc, given, input)?,
         "instructions" => instructions::answer(alloc, given, input)?,
         "method_flags" => method_flags::answer(alloc, given, input)?,
         "opcodes" => opcodes::answer(alloc, given, input)?,

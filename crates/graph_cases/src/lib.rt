@@ -3,6 +3,7 @@
 
 mod comparing;
 mod counting;
+mod ordering;
 mod reading;
 mod telling;
 
@@ -22,6 +23,7 @@ fn told(alloc: Global, what: &str, text: &str) -> Result<String, CaseError> {
         "nest" => telling::nest(alloc, &g),
         "covers" => telling::covers(alloc, &g),
         "ranks" => telling::ranks(alloc, &g),
+        "nested" => ordering::nested(alloc, &g),
         _ => Err(CaseError::Malformed("nothing of this name is told of a graph")),
     }
 }
@@ -31,6 +33,7 @@ fn graphs(alloc: Global, input: &str) -> Result<String, CaseError> {
     match what {
         "compare" => comparing::compare(alloc, text),
         "digest" => counting::digest(alloc, text),
+        "callees-first" => ordering::callees_first(alloc, text),
         _ => told(alloc, what, text),
     }
 }

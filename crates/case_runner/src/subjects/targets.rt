@@ -3,7 +3,8 @@
 use case_texts::CaseError;
 use case_texts::texts::text_of;
 use class_pool::Target;
-use cost_words::{Command, WordFault, WordKind, is_method_text, read};
+use cost_words::{Command, WordFault, WordKind, read};
+use descriptors::is_method_text;
 use std::alloc::{AllocError, Global};
 
 /// The parts of a target, with a space between each two.

@@ -1,9 +1,8 @@
-//! Descriptors (JVMS 4.3). The first word is the kind: of a `field`, of a `method` or of a `static` method, and `ints` for
-//! how many ints a method takes that takes nothing else. The words behind it are the text, one after another; `N*WORD`
-//! is the word N times.
+//! Descriptors (JVMS 4.3). The first word is the kind: of a `field`, of a `method` or of a `static` method. The words
+//! behind it are the text, one after another; `N*WORD` is the word N times.
 
 use case_texts::CaseError;
-use class_reader::{int_parameters, is_field_descriptor, is_method_descriptor};
+use descriptors::{is_field_descriptor, is_method_descriptor};
 use std::alloc::{AllocError, Global};
 
 fn push_times(text: &mut String, count: u16, word: &str) -> Result<(), AllocError> {
@@ -24,13 +23,6 @@ fn text_of(alloc: Global, words: &str) -> Result<String, CaseError> {
     Ok(text)
 }
 
-fn ints_shown(alloc: Global, desc: &[u8]) -> Result<String, AllocError> {
-    match int_parameters(desc) {
-        Some(count) => format!(in alloc; "{count}"),
-        None => format!(in alloc; "none"),
-    }
-}
-
 pub fn answer(alloc: Global, _given: &str, input: &str) -> Result<String, CaseError> {
     let (kind, words) = input.split_once(' ').unwrap_or((input, ""));
     let text = text_of(alloc, words)?;
@@ -39,7 +31,6 @@ pub fn answer(alloc: Global, _given: &str, input: &str) -> Result<String, CaseEr
         "field" => is_field_descriptor(desc),
         "method" => is_method_descriptor(false, desc),
         "static" => is_method_descriptor(true, desc),
-        "ints" => return Ok(ints_shown(alloc, desc)?),
         _ => return Err(CaseError::Malformed("no such kind")),
     };
     Ok(format!(in alloc; "{is_one}")?)

@@ -2,6 +2,5 @@ pub mod Place
 pub mod Utf8
 pub mod Pieces
 pub mod Pool
-pub mod Reading
 pub mod PoolReading
 pub mod FirstFault

@@ -10,4 +10,5 @@ mod parts;
 mod q;
 mod wide;
 
+pub use gcd::greatest_common_divisor;
 pub use q::{Q, QOp, TooWide};

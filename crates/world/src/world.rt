@@ -148,7 +148,6 @@ impl World {
 
     /// The name of the class with this number.
     pub fn name_at(&self, class: u32) -> &Text
-        requires { class < length self.now }
         ensures { result.now ≡ (class_at self.now class).name }
     {
         &self.hierarchy.record(class).name

@@ -7,13 +7,12 @@ use Rattle.graph_core.specs.Graphs.{HasEdge, EndsAtNodes, successors_of}
 use Rattle.graph_core.specs.Paths.{Leads, Reaches, LiesOnFirstPath}
 use Rattle.graph_core.specs.Components.{Closes}
 use Rattle.graph_core.specs.Numbers.{AreComponents, AreCounted}
-use Rattle.graph_core.specs.Search.{Found, IsSearch}
 use Rattle.graph_core.proofs.Lists.{Contains-nil}
 use Rattle.graph_core.proofs.Reach.{Reaches-node}
 use Rattle.graph_loops.specs.Nesting.{IsForward}
 use Rattle.graph_loops.specs.inside.Ahead.{LeadsAhead, IsAhead, AreAheadTo, AreAheadAt, ArePlaced, IsFallingTo}
 use Rattle.graph_loops.proofs.Firsts.{edge_source, leads_on, on_itself}
-use Rattle.graph_loops.proofs.Descents.{first_to}
+use Rattle.graph_loops.proofs.FirstPaths.{first_to}
 use Rattle.graph_loops.proofs.Circles.{cycle_top, edge_on}
 
 module _ (g : List (List ℕ)) (root a : ℕ) where
@@ -81,7 +80,7 @@ pub IsAhead-all : (g : List (List ℕ)) (root n : ℕ) (ahead : List (List ℕ))
 IsAhead-all g root n ahead e all w =
     record { nodes = e; edges = λ x y. (λ h. ((w x y).0 h).0, λ h. let l = edge_source g x y h.0 in (w x y).1 (h, omega arith)) }
 
-module _ (g : List (List ℕ)) (ends : EndsAtNodes g) (root : ℕ) (fits : root < length g) (f : Found) (s : IsSearch g root f) (ahead : List (List ℕ)) (h : IsAhead g root ahead) where
+module _ (g : List (List ℕ)) (ends : EndsAtNodes g) (root : ℕ) (ahead : List (List ℕ)) (h : IsAhead g root ahead) where
   closes_of : (rest : List ℕ) (x b a : ℕ) → HasEdge ahead x b → Leads ahead b rest a → (ys : List ℕ) × Closes ahead a x ys
   closes_of [] x b a e l = ([], subst (HasEdge ahead x) l e)
   closes_of (c ∷ rest) x b a e l = let r = closes_of rest b c a l.0 l.1 in (b ∷ r.0, (e, r.1))
@@ -93,7 +92,7 @@ module _ (g : List (List ℕ)) (ends : EndsAtNodes g) (root : ℕ) (fits : root 
   -- no cycle
   no_cycle : (a : ℕ) (ys : List ℕ) → Closes ahead a a ys → Reaches g root a → ⊥
   no_cycle a ys c r =
-      let top = cycle_top g root (first_to g ends root fits f s) a ys r (closes_in a a ys c) in
+      let top = cycle_top g root (first_to g root) a ys r (closes_in a a ys c) in
       let e = edge_on ahead (LiesOnFirstPath g root top.0) a top.0 ys c top.2 top.1 in
       ((h.edges e.0 top.0).0 e.1).2 e.2
 
@@ -120,7 +119,7 @@ module _ (g : List (List ℕ)) (ends : EndsAtNodes g) (root : ℕ) (fits : root 
         let l = edge_source g x y leads.0 in
         let m = ends x y leads.0 in
         let d = components.callees x y ((h.edges x y).1 leads) (omega arith) in
-        ⊎_elim (λ (e : get_or numbers x 0 ≡ get_or numbers y 0). let same = one_node x y l m e in let p = first_to g ends root fits f s x leads.1 in absurd (leads.2 (subst (λ (z : ℕ). LiesOnFirstPath g root z x) same (on_itself g root p.0 x p.1)))) (λ (o : get_or numbers x 0 ≢ get_or numbers y 0). omega arith) (cases_eq (get_or numbers x 0) (get_or numbers y 0))
+        ⊎_elim (λ (e : get_or numbers x 0 ≡ get_or numbers y 0). let same = one_node x y l m e in let p = first_to g root x leads.1 in absurd (leads.2 (subst (λ (z : ℕ). LiesOnFirstPath g root z x) same (on_itself g root p.0 x p.1)))) (λ (o : get_or numbers x 0 ≢ get_or numbers y 0). omega arith) (cases_eq (get_or numbers x 0) (get_or numbers y 0))
 
     pub IsForward-all : (order : List ℕ) → IsFallingTo g root numbers 0 order → IsForward g root order
     IsForward-all order w =

@@ -1,17 +1,16 @@
 -- a cycle has a node that lies on the first path to each of its nodes
-use Rattle.std.proofs.Common.{◌≡◌, ◌≢◌, ◌⊎◌, ℕ, List, [], ◌∷◌, ◌++◌, All, Contains, refl, sym, ◌∙◌, ap, inl, inr, ⊎_elim, subst, append_assoc, ◌<◌, length}
+use Rattle.std.proofs.Common.{◌≡◌, ◌≢◌, ◌⊎◌, ℕ, List, [], ◌∷◌, ◌++◌, All, Contains, refl, sym, ◌∙◌, ap, inl, inr, ⊎_elim, subst, append_assoc}
 use Rattle.std.proofs.lemmas.Bool.{cases_eq}
 use Rattle.std.proofs.lemmas.List.Elements.{All-cons, All-head, All-tail, All-nil, All-contains, Contains-append_left}
-use Rattle.graph_core.specs.Graphs.{HasEdge, EndsAtNodes}
+use Rattle.graph_core.specs.Graphs.{HasEdge}
 use Rattle.graph_core.specs.Paths.{Leads, IsPath, Reaches, IsNotAfter, IsFirstPath, LiesOnFirstPath}
 use Rattle.graph_core.specs.Components.{Closes}
 use Rattle.graph_core.specs.Loops.{HasLoop, IsInLoop}
-use Rattle.graph_core.specs.Search.{Found, IsSearch}
 use Rattle.graph_core.proofs.Lists.{Contains-cons_cases, Contains-tail, Contains-head, Contains-nil, cases_Contains}
 use Rattle.graph_core.proofs.Orders.{first_path_one}
 use Rattle.graph_core.proofs.Marks.{loops_back_source, loops_back_before}
 use Rattle.graph_core.proofs.Reach.{Reaches-itself, Reaches-before, Reaches-through}
-use Rattle.graph_loops.proofs.Descents.{first_to}
+use Rattle.graph_loops.proofs.FirstPaths.{first_to}
 use Rattle.graph_loops.proofs.Firsts.{Before, cases_before, before_not_after, not_after_itself, not_after_through, continued, not_longer, leads_on, end_in, no_repeat_push, Cut, cut, on_itself, on_chain}
 
 -- An edge from what h lies before leads to what h lies before, or to what comes before h.
@@ -176,8 +175,8 @@ module _ (g : List (List ℕ)) (root h : ℕ) where
       ((e.0, (e.1, e.2)), all_inside a a rest c all (to_inside a a rest c all d))
 
 -- each cycle of what the root reaches lies in the loop of one of its nodes
-pub cycle_loop : (g : List (List ℕ)) → EndsAtNodes g → (root : ℕ) → root < length g → (f : Found) → IsSearch g root f → (a : ℕ) (rest : List ℕ) → Reaches g root a → Closes g a a rest → (h : ℕ) × Contains (a ∷ rest) h × HasLoop g root h × All (IsInLoop g root h) (a ∷ rest)
-cycle_loop g ends root fits f s a rest r c =
-    let top = cycle_top g root (first_to g ends root fits f s) a rest r c in
+pub cycle_loop : (g : List (List ℕ)) (root a : ℕ) (rest : List ℕ) → Reaches g root a → Closes g a a rest → (h : ℕ) × Contains (a ∷ rest) h × HasLoop g root h × All (IsInLoop g root h) (a ∷ rest)
+cycle_loop g root a rest r c =
+    let top = cycle_top g root (first_to g root) a rest r c in
     let l = cycle_inside g root top.0 a rest c top.2 top.1 in
     (top.0, top.1, l.0, l.1)

@@ -1,5 +1,5 @@
 pub mod Firsts
-pub mod Descents
+pub mod FirstPaths
 pub mod Insides
 pub mod Circles
 pub mod Arounds

@@ -7,6 +7,6 @@ mod laws;
 mod looping;
 mod nested;
 
-pub use laws::{loops_are_reached, loops_lie_apart_or_within};
+pub use laws::{cycles_lie_in_loops, loops_are_reached, loops_lie_apart_or_within};
 pub use looping::loops;
 pub use nested::NestedLoops;

@@ -1,8 +1,6 @@
-ghost use Rattle.std.specs.Prelude.{◌≡◌, ◌<◌, ◌∷◌, ℕ, List, All, Contains, Err, length, IfOk, OnOk};
+ghost use Rattle.std.specs.Prelude.{◌≡◌, ◌<◌, ℕ, Err, length, IfOk, OnOk};
 ghost use Rattle.graph_core.specs.declared.loops.NestFault.TheVariants as faults;
-ghost use Rattle.graph_core.specs.Paths.{Reaches};
-ghost use Rattle.graph_core.specs.Components.{Closes};
-ghost use Rattle.graph_core.specs.Loops.{HasLoop, IsInLoop, IsAlsoEntered};
+ghost use Rattle.graph_core.specs.Loops.{IsAlsoEntered};
 ghost use Rattle.graph_core.specs.Nests.{IsFirstEntered};
 ghost use Rattle.graph_loops.specs.Nesting.{IsNested};
 
@@ -14,13 +12,11 @@ use graph_core::{Graph, first_paths, nest};
 use std::alloc::Global;
 
 /// The loops of what the root reaches, with the innermost loop of each node, the parent of each loop, and an order
-/// of the nodes. Each cycle lies in the loop of one of its nodes, and so it passes the entry. `TwoEntries` tells
-/// of the loop with the lowest entry that is also entered elsewhere, and of the lowest such node.
+/// of the nodes. `TwoEntries` tells of the loop with the lowest entry that is also entered elsewhere, and of the
+/// lowest such node.
 pub fn loops(alloc: Global, g: &Graph, root: u32) -> Result<NestedLoops, NestFault>
     requires { root < length g.now }
     ensures nested { IfOk result (λ n. IsNested g.now root n) }
-    ensures cycles { OnOk result ((a : ℕ) (rest : List ℕ) → Reaches g.now root a → Closes g.now a a rest
-        → (h : ℕ) × Contains (a ∷ rest) h × HasLoop g.now root h × All (IsInLoop g.now root h) (a ∷ rest)) }
     ensures one_entry { OnOk result ((h x : ℕ) → IsAlsoEntered g.now root h x → ⊥) }
     ensures two_entries { (a b : ℕ) → result ≡ Err (faults.TwoEntries a b)
         → IsFirstEntered g.now root a b }

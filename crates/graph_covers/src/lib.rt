@@ -1,4 +1,4 @@
-//! Covers of a graph's components, and the order in which components are worked through.
+//! Covers of a graph's components: the one node of each that all its cycles pass, and ranks along all other edges.
 #![tactic(auto)]
 
 mod avoiding;

@@ -8,7 +8,8 @@ use Rattle.world.specs.declared.member.MemberId.{MemberId}
 use Rattle.class_hierarchy.specs.World.{World, class_at, number_of, is_instantiable}
 use Rattle.descriptors.specs.Texts.{is_array, is_class, name_of}
 use Rattle.world.specs.Resolution.{resolved_field}
-use Rattle.linking.specs.Told.{told, then_by}
+use Rattle.linking.specs.Told.{told, then_by, unless}
+use Rattle.linking.specs.References.{Reference, against_field}
 use Rattle.linking.specs.Calls.{is_same}
 
 -- ---- fields (JVMS 5.4.3.2)
@@ -25,6 +26,14 @@ unfoldable pub field_meant : World → Bool → List ℕ → List ℕ → List �
 field_meant w static class name desc =
     if is_array class then Err constructs.MissingClass else then_by (fits_field w static) (told (resolved_field w class name desc))
 
+abbrev pub field_to : World → Bool → Option Reference → Result MemberId Construct
+field_to w static None = Err constructs.Constant
+field_to w static (Some (tag, class, name, desc)) = field_meant w static class name desc
+
+-- the same by a member reference, where nothing stands against it
+unfoldable pub field_by : World → Bool → Option Reference → Result MemberId Construct
+field_by w static reference = unless (field_to w static reference) (against_field static reference)
+
 -- ---- classes (JVMS 5.4.3.1)
 
 abbrev pub instantiable : World → Option ℕ → Result ℕ Construct
@@ -35,6 +44,7 @@ instantiable w (Some c) = if is_instantiable w c then Ok c else Err constructs.I
 unfoldable pub made_of : World → List ℕ → Result ℕ Construct
 made_of w name = if is_array name then Err constructs.MissingClass else instantiable w (number_of w name)
 
+-- the same by the name of a Class entry
 abbrev pub made_by : World → Option (List ℕ) → Result ℕ Construct
 made_by w None = Err constructs.Constant
 made_by w (Some name) = made_of w name

@@ -7,7 +7,7 @@ ghost use Rattle.world.specs.Resolution.{resolved_method};
 ghost use Rattle.world.specs.Selection.{method_of};
 ghost use Rattle.world.specs.Tables.{HasMethod};
 ghost use Rattle.linking.specs.Told.{Tells, told};
-ghost use Rattle.linking.specs.Calls.{called, fits, found, from_superclass, is_constructor, is_same, is_static_call, is_super_call, linked, linked_by, looked_up, meant};
+ghost use Rattle.linking.specs.Calls.{called, called_by, fits, found, from_superclass, is_constructor, is_same, is_static_call, is_super_call, linked, linked_by, looked_up, meant};
 
 use crate::fault::LinkFault;
 use crate::references::against_call;
@@ -231,16 +231,9 @@ pub fn linked_by(
     }
 }
 
-/// The methods that a call in the current class can run, where a class, a name and a descriptor are named: for
-/// `invokespecial` and `invokestatic` the one that is looked up, else those that the classes of receivers select, in the
-/// order of the names of their classes.
-///
-/// # Errors
-///
-/// The first that stands against it: as of `linked_by`, then what receivers' classes meet, an abstract method that isn't
-/// selected by a receiver, and a native method.
+// The methods that a call can run, where a class, a name and a descriptor are named.
 #[tactic(auto, unfolding(crate::specs::Calls::called))]
-pub fn called(
+fn called(
     alloc: Global,
     world: &World,
     current: u32,
@@ -254,4 +247,30 @@ pub fn called(
 {
     let linked = linked(alloc, world, current, call, class, name, desc)?;
     run_by(alloc, world, call, linked)
+}
+
+/// The methods that a call in the current class can run by a member reference of its pool: for `invokespecial` and
+/// `invokestatic` the one that is looked up, else those that the classes of receivers select, in the order of the names of
+/// their classes.
+///
+/// # Errors
+///
+/// The first that stands against it, but for what `against_call` tells of a member reference, which isn't looked at here:
+/// as of `linked_by`, then what receivers' classes meet, an abstract method that isn't selected by a receiver, and a native
+/// method.
+pub fn called_by(
+    alloc: Global,
+    world: &World,
+    current: u32,
+    call: Call,
+    pool: &Pool,
+    index: u16,
+) -> Result<Sequence<MemberId>, LinkFault>
+    ensures there { IfOk result (λ ts. All (HasMethod world.now) ts) }
+    ensures exact { Tells result (called_by world.now current call (member_at pool.now index)) }
+{
+    match pool.member(index) {
+        Some((_, class, name, desc)) => called(alloc, world, current, call, class, name, desc),
+        None => Err(LinkFault::Against(Construct::Constant)),
+    }
 }

@@ -9,8 +9,8 @@ mod members;
 mod references;
 mod targets;
 
-pub use calls::{Meant, called, linked_by};
+pub use calls::{Meant, called_by, linked_by};
 pub use fault::LinkFault;
 pub use laws::targets_are_listed;
-pub use members::{field_meant, known, made_of};
+pub use members::{field_by, known, made_by};
 pub use references::{against_call, against_class, against_field, construct_if};

@@ -5,7 +5,7 @@ use Rattle.machine.specs.declared.values.Value.{Value}
 use Rattle.machine.specs.declared.values.Value.TheVariants.{Int, Long, Pad, Null, Ref}
 use Rattle.machine.specs.declared.entering_heap.Survey.{Survey}
 use Rattle.machine.specs.Heap.{Cells}
-use Rattle.machine.specs.Entry.{is_class_type}
+use Rattle.descriptors.specs.Texts.{is_class}
 use Rattle.machine.specs.EnteringCells.{agrees}
 use Rattle.machine.specs.EnteringHeap.{IsSurvey, AllPass}
 use Rattle.machine.specs.Entering.{IsSound}
@@ -23,16 +23,16 @@ rooted w heap s type value r is same agree =
 pub not_sound : (w : World) (heap : Cells) (type : List ℕ) (value : Value) → agrees w heap type value ≡ false → IsSound w heap type value → ⊥
 not_sound w heap type value other sound = (let agree : agrees w heap type value ≡ true = (agreeing_is w heap type value).1 sound.agrees in absurd cc)
 
-reference_is : (w : World) (heap : Cells) (s : Survey) (type : List ℕ) (r : ℕ) → IsSurvey w heap s → agrees w heap type (Ref r) ≡ true → AllPass (is_class_type type) s.graph s.marks.items r ↔ IsSound w heap type (Ref r)
+reference_is : (w : World) (heap : Cells) (s : Survey) (type : List ℕ) (r : ℕ) → IsSurvey w heap s → agrees w heap type (Ref r) ≡ true → AllPass (is_class type) s.graph s.marks.items r ↔ IsSound w heap type (Ref r)
 reference_is w heap s type r is agree =
-    let both = sound_is w heap s (is_class_type type) r is (inside w heap type r agree) in (
+    let both = sound_is w heap s (is_class type) r is (inside w heap type r agree) in (
       λ all. record { agrees = (agreeing_is w heap type (Ref r)).0 agree; held = (both.0 all).0; acyclic = (both.0 all).1 },
       λ sound. both.1 (sound.held, sound.acyclic),
     )
 
-pub sound_reference : (w : World) (heap : Cells) (s : Survey) (type : List ℕ) (value : Value) (r : ℕ) → IsSurvey w heap s → value ≡ Ref r → agrees w heap type value ≡ true → AllPass (is_class_type type) s.graph s.marks.items r ↔ IsSound w heap type value
+pub sound_reference : (w : World) (heap : Cells) (s : Survey) (type : List ℕ) (value : Value) (r : ℕ) → IsSurvey w heap s → value ≡ Ref r → agrees w heap type value ≡ true → AllPass (is_class type) s.graph s.marks.items r ↔ IsSound w heap type value
 sound_reference w heap s type value r is same agree =
-    subst (λ (v : Value). AllPass (is_class_type type) s.graph s.marks.items r ↔ IsSound w heap type v) (sym same)
+    subst (λ (v : Value). AllPass (is_class type) s.graph s.marks.items r ↔ IsSound w heap type v) (sym same)
     (reference_is w heap s type r is (subst (λ (v : Value). agrees w heap type v ≡ true) same agree))
 
 pub sound_other : (w : World) (heap : Cells) (type : List ℕ) (value : Value) → ((r : ℕ) → value ≢ Ref r) → agrees w heap type value ≡ true → IsSound w heap type value

@@ -31,7 +31,7 @@ Holds at (Leaves value) = Unit {0}
 
 row_holds : {w : World} {s : Standing} {at : Here} {action : Action} {outcome : Outcome} → Row w s at action outcome → Holds at outcome
 row_holds (rows.computes made room) = omega arith
-row_holds {w} {s} {at} (rows.creates class can room) = cell_grows _ at.heap
+row_holds {w} {s} {at} (rows.creates means room) = cell_grows _ at.heap
 row_holds (rows.enters called) = tt
 row_holds (rows.returns top typed) = tt
 row_holds (rows.returns_nothing typed) = tt

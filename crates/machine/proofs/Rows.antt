@@ -5,7 +5,7 @@ use Rattle.std.specs.Result.{result_ok}
 use Rattle.std.proofs.lemmas.Grind.{common_steps}
 use Rattle.std.proofs.lemmas.Bool.Decides.{nat_tests}
 use Rattle.class_pool.specs.declared.constant.Constant.{Constant}
-use Rattle.class_pool.specs.Pool.{constant_at, int_of, long_of}
+use Rattle.class_pool.specs.Pool.{class_name_at, constant_at, int_of, long_of, member_at}
 use Rattle.op_table.specs.Actions.{action_of}
 use Rattle.op_table.specs.declared.acts.Action.{Action}
 use Rattle.op_table.specs.declared.acts.Action.TheVariants as acts
@@ -20,10 +20,14 @@ use Rattle.op_table.specs.declared.acts.Width.{Width}
 use Rattle.op_table.specs.declared.acts.Width.TheVariants as widths
 use Rattle.op_table.specs.declared.acts.Call.{Call}
 use Rattle.op_table.specs.declared.acts.Call.TheVariants.{Virtual, Special, Static, Interface}
+use Rattle.op_table.specs.declared.construct.Construct.{Construct}
 use Rattle.world.specs.declared.member.MemberId.{MemberId}
 use Rattle.world.specs.declared.fault.ResolveFault.{ResolveFault}
-use Rattle.class_hierarchy.specs.World.{World, is_below, is_instantiable}
+use Rattle.class_hierarchy.specs.World.{World, is_below}
 use Rattle.world.specs.Selection.{method_of, selected_by}
+use Rattle.linking.specs.declared.calls.Meant.{Meant}
+use Rattle.linking.specs.Calls.{linked_by}
+use Rattle.linking.specs.Members.{made_by}
 use Rattle.class_reader.specs.Flags.{is_native}
 use Rattle.class_reader.specs.declared.class.Code.{Code}
 use Rattle.machine.specs.declared.heap.Cell.{Cell}
@@ -32,7 +36,7 @@ use Rattle.descriptors.specs.Pieces.{parameters_of, result_of}
 use Rattle.descriptors.specs.Texts.{words_of_all}
 use Rattle.machine.specs.Types.{is_type}
 use Rattle.machine.specs.Heap.{Cells, cell_at, free_number, with_cell, new_fields, is_of_type, is_of_class, class_of}
-use Rattle.machine.specs.Calling.{Meant, Handed, stop, meant_at, linked, receiver_words, taken, are_words, waiting, new_frame, narrowed_to, class_meant, make_object, new_object, return_popped, return_value, throw_popped, or_link, selects, target, has_locals, enter_code, enter_target, hand_over, call_linked, call_meant, call}
+use Rattle.machine.specs.Calling.{Handed, stop, receiver_words, taken, are_words, waiting, new_frame, narrowed_to, make_object, new_object, return_popped, return_value, throw_popped, or_link, selects, target, has_locals, enter_code, enter_target, hand_over, call_linked, call}
 use Rattle.machine.specs.declared.values.Value.{Value}
 use Rattle.machine.specs.declared.values.Value.TheVariants.{Int, Long, Pad, Null, Ref}
 use Rattle.machine.specs.declared.configuration.Here.{Here}
@@ -199,21 +203,16 @@ words_row w s at action =
 
 -- ---- new objects
 
-created_row : (w : World) (s : Standing) (at : Here) (i c : ℕ) (can : Bool) → class_meant w s.class.pool i ≡ Some c → is_instantiable w c ≡ can
-    → Row w s at (acts.New i) (if can then goes_on s at false at.frame.locals (Ref (free_number at.heap) ∷ at.frame.stack) (with_cell (Object c (new_fields w c)) at.heap) else stop stop_kinds.Link at)
-created_row w s at i c false is can = rows.stops
-created_row w s at i c true is can =
-    room_row w s at (acts.New i) (has_room s.code (next_pc s at) (Ref (free_number at.heap) ∷ at.frame.stack)) Goes (Ref (free_number at.heap) ∷ at.frame.stack)
-    (moved s at at.frame.locals (Ref (free_number at.heap) ∷ at.frame.stack) (with_cell (Object c (new_fields w c)) at.heap)) refl (λ room. rows.creates is can room)
-
-made_object_row : (w : World) (s : Standing) (at : Here) (i : ℕ) (found : Option ℕ) → class_meant w s.class.pool i ≡ found
+made_object_row : (w : World) (s : Standing) (at : Here) (i : ℕ) (found : Result ℕ Construct) → made_by w (class_name_at s.class.pool i) ≡ found
     → Row w s at (acts.New i) (make_object w s at found)
-made_object_row w s at i None is = rows.stops
-made_object_row w s at i (Some c) is = created_row w s at i c (is_instantiable w c) is refl
+made_object_row w s at i (Err construct) is = rows.stops
+made_object_row w s at i (Ok c) is =
+    room_row w s at (acts.New i) (has_room s.code (next_pc s at) (Ref (free_number at.heap) ∷ at.frame.stack)) Goes (Ref (free_number at.heap) ∷ at.frame.stack)
+    (moved s at at.frame.locals (Ref (free_number at.heap) ∷ at.frame.stack) (with_cell (Object c (new_fields w c)) at.heap)) refl (λ room. rows.creates is room)
 
 new_row : (w : World) (s : Standing) (at : Here) (i : ℕ) → Row w s at (acts.New i) (new_object w s at i)
 unfolding new_object
-new_row w s at i = made_object_row w s at i (class_meant w s.class.pool i) refl
+new_row w s at i = made_object_row w s at i (made_by w (class_name_at s.class.pool i)) refl
 
 -- ---- returns and what is thrown
 
@@ -254,12 +253,10 @@ ok_of (Err e) m is = absurd (cc)
 -- what is known of a call when its method is looked for
 record Taken (w : World) (s : Standing) (at : Here) (call : Call) (i : ℕ) : Type 0 where
   meant : Meant
-  names : meant_at w s.class.pool i ≡ Some meant
-  method : MemberId
-  links : linked w at.frame.method.class call meant ≡ Some method
+  links : linked_by w at.frame.method.class call (member_at s.class.pool i) ≡ Ok meant
   handed : Handed
-  takes : taken (receiver_words call + words_of_all (parameters_of (method_of w method).desc)) at.frame.stack ≡ Some handed
-  typed : are_words w at.heap call (parameters_of (method_of w method).desc) handed.words ≡ true
+  takes : taken (receiver_words call + words_of_all (parameters_of (method_of w meant.method).desc)) at.frame.stack ≡ Some handed
+  typed : are_words w at.heap call (parameters_of (method_of w meant.method).desc) handed.words ≡ true
 
 -- what a call's method is found to be
 abbrev IsFound : World → Cells → ℕ → MemberId → Call → List Value → Result MemberId Effect → Type 0
@@ -326,14 +323,12 @@ found w heap class m call (receiver ∷ words) = receiver_found w heap class m c
 
 -- the method runs, where its code holds the words
 code_row : (w : World) (s : Standing) (at : Here) (call : Call) (i : ℕ) (c : Taken w s at call i) (t : MemberId) (code : Code) (holds : Bool)
-    → rows.Dispatched w at.heap c.meant.class c.method call c.handed.words t → code_at w t ≡ Some code → has_locals code c.handed.words ≡ holds
+    → rows.Dispatched w at.heap c.meant.class c.meant.method call c.handed.words t → code_at w t ≡ Some code → has_locals code c.handed.words ≡ holds
     → Row w s at (acts.Call call i) (if holds then Enters (waiting s at c.handed.rest) (new_frame t code c.handed.words) else stop stop_kinds.Shape at)
 code_row w s at call i c t code false dispatched has is = rows.stops
 code_row w s at call i c t code true dispatched has is =
     rows.enters (record {
       meant = c.meant;
-      names = c.names;
-      method = c.method;
       links = c.links;
       handed = c.handed;
       takes = c.takes;
@@ -349,13 +344,13 @@ code_row w s at call i c t code true dispatched has is =
     })
 
 entered_row : (w : World) (s : Standing) (at : Here) (call : Call) (i : ℕ) (c : Taken w s at call i) (t : MemberId) (native : Bool) (code : Option Code)
-    → rows.Dispatched w at.heap c.meant.class c.method call c.handed.words t → code_at w t ≡ code
+    → rows.Dispatched w at.heap c.meant.class c.meant.method call c.handed.words t → code_at w t ≡ code
     → Row w s at (acts.Call call i) (enter_code s at c.handed t native code)
 entered_row w s at call i c t native None dispatched has = rows.stops
 entered_row w s at call i c t native (Some code) dispatched has = code_row w s at call i c t code (has_locals code c.handed.words) dispatched has refl
 
 target_row : (w : World) (s : Standing) (at : Here) (call : Call) (i : ℕ) (c : Taken w s at call i) (found : Result MemberId Effect)
-    → IsFound w at.heap c.meant.class c.method call c.handed.words found
+    → IsFound w at.heap c.meant.class c.meant.method call c.handed.words found
     → Row w s at (acts.Call call i) (enter_target w s at c.handed found)
 target_row w s at call i c (Ok t) is = entered_row w s at call i c t (is_native (method_of w t).flags) (code_at w t) is refl
 target_row w s at call i c (Err (Stops k)) is = rows.stops
@@ -364,41 +359,36 @@ target_row w s at call i c (Err (Throws k)) is =
 target_row w s at call i c (Err Goes) is = absurd is
 target_row w s at call i c (Err Wraps) is = absurd is
 
-words_typed_row : (w : World) (s : Standing) (at : Here) (call : Call) (i : ℕ) (meant : Meant) (method : MemberId) (handed : Handed) (typed : Bool)
-    → meant_at w s.class.pool i ≡ Some meant → linked w at.frame.method.class call meant ≡ Some method
-    → taken (receiver_words call + words_of_all (parameters_of (method_of w method).desc)) at.frame.stack ≡ Some handed
-    → are_words w at.heap call (parameters_of (method_of w method).desc) handed.words ≡ typed
+words_typed_row : (w : World) (s : Standing) (at : Here) (call : Call) (i : ℕ) (meant : Meant) (handed : Handed) (typed : Bool)
+    → linked_by w at.frame.method.class call (member_at s.class.pool i) ≡ Ok meant
+    → taken (receiver_words call + words_of_all (parameters_of (method_of w meant.method).desc)) at.frame.stack ≡ Some handed
+    → are_words w at.heap call (parameters_of (method_of w meant.method).desc) handed.words ≡ typed
     → Row w s at (acts.Call call i)
-    (if typed then enter_target w s at handed (target w at.heap meant.class call method handed.words) else stop stop_kinds.Shape at)
-words_typed_row w s at call i meant method handed false names links takes typed = rows.stops
-words_typed_row w s at call i meant method handed true names links takes typed =
+    (if typed then enter_target w s at handed (target w at.heap meant.class call meant.method handed.words) else stop stop_kinds.Shape at)
+words_typed_row w s at call i meant handed false links takes typed = rows.stops
+words_typed_row w s at call i meant handed true links takes typed =
     target_row w s at call i
-    (record { meant = meant; names = names; method = method; links = links; handed = handed; takes = takes; typed = typed })
-    (target w at.heap meant.class call method handed.words) (found w at.heap meant.class method call handed.words)
+    (record { meant = meant; links = links; handed = handed; takes = takes; typed = typed })
+    (target w at.heap meant.class call meant.method handed.words) (found w at.heap meant.class meant.method call handed.words)
 
-handed_row : (w : World) (s : Standing) (at : Here) (call : Call) (i : ℕ) (meant : Meant) (method : MemberId) (found : Option Handed)
-    → meant_at w s.class.pool i ≡ Some meant → linked w at.frame.method.class call meant ≡ Some method
-    → taken (receiver_words call + words_of_all (parameters_of (method_of w method).desc)) at.frame.stack ≡ found
-    → Row w s at (acts.Call call i) (hand_over w s at meant.class call method found)
-handed_row w s at call i meant method None names links takes = rows.stops
-handed_row w s at call i meant method (Some handed) names links takes =
-    words_typed_row w s at call i meant method handed (are_words w at.heap call (parameters_of (method_of w method).desc) handed.words) names links takes refl
+handed_row : (w : World) (s : Standing) (at : Here) (call : Call) (i : ℕ) (meant : Meant) (found : Option Handed)
+    → linked_by w at.frame.method.class call (member_at s.class.pool i) ≡ Ok meant
+    → taken (receiver_words call + words_of_all (parameters_of (method_of w meant.method).desc)) at.frame.stack ≡ found
+    → Row w s at (acts.Call call i) (hand_over w s at meant.class call meant.method found)
+handed_row w s at call i meant None links takes = rows.stops
+handed_row w s at call i meant (Some handed) links takes =
+    words_typed_row w s at call i meant handed (are_words w at.heap call (parameters_of (method_of w meant.method).desc) handed.words) links takes refl
 
-linked_row : (w : World) (s : Standing) (at : Here) (call : Call) (i : ℕ) (meant : Meant) (found : Option MemberId)
-    → meant_at w s.class.pool i ≡ Some meant → linked w at.frame.method.class call meant ≡ found
-    → Row w s at (acts.Call call i) (call_linked w s at call meant.class found)
-linked_row w s at call i meant None names links = rows.stops
-linked_row w s at call i meant (Some method) names links =
-    handed_row w s at call i meant method (taken (receiver_words call + words_of_all (parameters_of (method_of w method).desc)) at.frame.stack) names links refl
-
-meant_row : (w : World) (s : Standing) (at : Here) (call : Call) (i : ℕ) (found : Option Meant) → meant_at w s.class.pool i ≡ found
-    → Row w s at (acts.Call call i) (call_meant w s at call found)
-meant_row w s at call i None names = rows.stops
-meant_row w s at call i (Some meant) names = linked_row w s at call i meant (linked w at.frame.method.class call meant) names refl
+linked_row : (w : World) (s : Standing) (at : Here) (call : Call) (i : ℕ) (found : Result Meant Construct)
+    → linked_by w at.frame.method.class call (member_at s.class.pool i) ≡ found
+    → Row w s at (acts.Call call i) (call_linked w s at call found)
+linked_row w s at call i (Err construct) links = rows.stops
+linked_row w s at call i (Ok meant) links =
+    handed_row w s at call i meant (taken (receiver_words call + words_of_all (parameters_of (method_of w meant.method).desc)) at.frame.stack) links refl
 
 call_row : (w : World) (s : Standing) (at : Here) (kind : Call) (i : ℕ) → Row w s at (acts.Call kind i) (call w s at kind i)
 unfolding call
-call_row w s at kind i = meant_row w s at kind i (meant_at w s.class.pool i) refl
+call_row w s at kind i = linked_row w s at kind i (linked_by w at.frame.method.class kind (member_at s.class.pool i)) refl
 
 -- ---- all instructions
 

@@ -1,21 +1,23 @@
 -- Calls, returns, new objects and what is thrown (JVMS 2.6, 2.11.8, 6.5).
-use Rattle.std.specs.Prelude.{ℕ, ◌+◌, ◌-◌, ◌==◌, ◌&&◌, not, nat_le, nat_lt, nat_eq, Bool, true, false, ℤ, pos, List, [], ◌∷◌, ◌++◌, length, take, drop, reverse, replicate, Option, Some, None, Result, Ok, Err, option_map, option_and_then, codes, if◌then◌else◌}
+use Rattle.std.specs.Prelude.{ℕ, ◌+◌, ◌-◌, ◌==◌, ◌&&◌, nat_le, nat_lt, Bool, true, false, ℤ, pos, List, [], ◌∷◌, ◌++◌, length, take, drop, reverse, replicate, Option, Some, None, Result, Ok, Err, codes, if◌then◌else◌}
 use Rattle.std.specs.Result.{result_ok}
 use Rattle.std.specs.Int.{int_rem_euclid}
-use Rattle.class_pool.specs.declared.constant.Constant.{Constant}
 use Rattle.class_pool.specs.Pool.{class_name_at, member_at}
-use Rattle.class_reader.specs.declared.class.Method.{Method}
 use Rattle.class_reader.specs.declared.class.Code.{Code}
-use Rattle.class_reader.specs.Flags.{is_static, is_native, is_interface}
+use Rattle.class_reader.specs.Flags.{is_native}
 use Rattle.op_table.specs.declared.acts.Kind.{Kind}
 use Rattle.op_table.specs.declared.acts.Kind.TheVariants as kinds
 use Rattle.op_table.specs.declared.acts.Small.TheVariants.{Byte, Char, Short}
 use Rattle.op_table.specs.declared.acts.Call.{Call}
 use Rattle.op_table.specs.declared.acts.Call.TheVariants.{Special, Static}
+use Rattle.op_table.specs.declared.construct.Construct.{Construct}
+use Rattle.op_table.specs.declared.construct.Construct.TheVariants as constructs
 use Rattle.world.specs.declared.member.MemberId.{MemberId}
-use Rattle.class_hierarchy.specs.World.{World, class_at, number_of, is_below, is_instantiable}
-use Rattle.world.specs.Resolution.{resolved_method}
+use Rattle.class_hierarchy.specs.World.{World}
 use Rattle.world.specs.Selection.{method_of, selected_by}
+use Rattle.linking.specs.declared.calls.Meant.{Meant}
+use Rattle.linking.specs.Calls.{linked_by}
+use Rattle.linking.specs.Members.{made_by}
 use Rattle.machine.specs.declared.values.Value.{Value}
 use Rattle.machine.specs.declared.values.Value.TheVariants.{Int, Long, Pad, Null, Ref}
 use Rattle.machine.specs.declared.heap.Cell.TheVariants.{Object}
@@ -35,58 +37,18 @@ use Rattle.machine.specs.Outcome.{Effect, Throws, Stops, Outcome, Stays, Enters,
 abbrev pub stop : Stop → Here → Outcome
 stop k here = Stays (Stops k) here
 
-abbrev pub is_same : Bool → Bool → Bool
-is_same true b = b
-is_same false b = not b
+-- Where this stands against an instruction: floats, doubles, static references, native methods and methods of arrays
+-- aren't run, and anything else can't be linked.
+abbrev pub stop_of : Construct → Stop
+stop_of constructs.Float = stops.Support
+stop_of constructs.StaticRef = stops.Support
+stop_of constructs.Native = stops.Support
+stop_of constructs.ArrayMethod = stops.Support
+stop_of construct = stops.Link
 
 abbrev pub is_null : Value → Bool
 is_null Null = true
 is_null value = false
-
--- ---- which method a call names (JVMS 5.4.3.3)
-
--- the class that is named, and the method that the name means there
-pub record Meant : Type 0 where
-  pub class : ℕ
-  pub method : MemberId
-
-abbrev pub meant_by : World → List ℕ → List ℕ → List ℕ → Option Meant
-meant_by w class name desc =
-    option_and_then (λ c. option_map (λ m. record { class = c; method = m }) (result_ok (resolved_method w class name desc))) (number_of w class)
-
--- by a member reference, whose tag isn't looked at
-abbrev pub meant_at : World → List (Option Constant) → ℕ → Option Meant
-meant_at w pool i = option_and_then (λ (tag, class, name, desc). meant_by w class name desc) (member_at pool i)
-
--- an invokespecial of a method of a proper superclass, but not of a constructor (JVMS 6.5.invokespecial); a class
--- above the current one that is no interface is a superclass
-abbrev pub is_super_call : World → ℕ → Meant → Bool
-is_super_call w current m =
-    not (is_type (codes "<init>") (method_of w m.method).name)
-    && (is_below w current m.class && not (nat_eq m.class current))
-    && not (is_interface (class_at w m.class).flags)
-
--- the method of this name and descriptor, from the direct superclass of the current class on
-abbrev pub meant_above : World → ℕ → Method → Option MemberId
-meant_above w current method =
-    option_and_then (λ name. result_ok (resolved_method w name method.name method.desc)) (class_at w current).super_name
-
-abbrev pub looked_up : World → ℕ → Call → Meant → Option MemberId
-looked_up w current Special m = if is_super_call w current m then meant_above w current (method_of w m.method) else Some m.method
-looked_up w current call m = Some m.method
-
-abbrev pub is_static_call : Call → Bool
-is_static_call Static = true
-is_static_call call = false
-
--- the method, where it is static exactly where the call is
-abbrev pub fitting : World → Call → MemberId → Option MemberId
-fitting w call m = if is_same (is_static (method_of w m).flags) (is_static_call call) then Some m else None
-
--- the method that is looked up: it and the one that is meant fit the call
-abbrev pub linked : World → ℕ → Call → Meant → Option MemberId
-linked w current call m =
-    option_and_then (fitting w call) (option_and_then (λ _. looked_up w current call m) (fitting w call m.method))
 
 -- ---- what a call takes from the operand stack (JVMS 2.6.1)
 
@@ -196,18 +158,14 @@ hand_over w s here class call m (Some h) =
     then enter_target w s here h (target w here.heap class call m h.words)
     else stop stops.Shape here
 
-abbrev pub call_linked : World → Standing → Here → Call → ℕ → Option MemberId → Outcome
-call_linked w s here call class None = stop stops.Link here
-call_linked w s here call class (Some m) =
-    hand_over w s here class call m (taken (receiver_words call + words_of_all (parameters_of (method_of w m).desc)) here.frame.stack)
-
-abbrev pub call_meant : World → Standing → Here → Call → Option Meant → Outcome
-call_meant w s here call None = stop stops.Link here
-call_meant w s here call (Some m) = call_linked w s here call m.class (linked w here.frame.method.class call m)
+abbrev pub call_linked : World → Standing → Here → Call → Result Meant Construct → Outcome
+call_linked w s here call (Err construct) = stop (stop_of construct) here
+call_linked w s here call (Ok m) =
+    hand_over w s here m.class call m.method (taken (receiver_words call + words_of_all (parameters_of (method_of w m.method).desc)) here.frame.stack)
 
 -- the outcome of a call of the member reference with this index
 unfoldable pub call : World → Standing → Here → Call → ℕ → Outcome
-call w s here kind i = call_meant w s here kind (meant_at w s.class.pool i)
+call w s here kind i = call_linked w s here kind (linked_by w here.frame.method.class kind (member_at s.class.pool i))
 
 -- ---- returns (JVMS 6.5.ireturn)
 
@@ -238,20 +196,14 @@ return_nothing s here = if is_type (codes "V") (result_of s.method.desc) then Le
 
 -- ---- new objects (JVMS 6.5.new)
 
--- the class that a Class entry names
-abbrev pub class_meant : World → List (Option Constant) → ℕ → Option ℕ
-class_meant w pool i = option_and_then (number_of w) (class_name_at pool i)
-
-abbrev pub make_object : World → Standing → Here → Option ℕ → Outcome
-make_object w s here None = stop stops.Link here
-make_object w s here (Some c) =
-    if is_instantiable w c
-    then goes_on s here false here.frame.locals (Ref (free_number here.heap) ∷ here.frame.stack) (with_cell (Object c (new_fields w c)) here.heap)
-    else stop stops.Link here
+abbrev pub make_object : World → Standing → Here → Result ℕ Construct → Outcome
+make_object w s here (Err construct) = stop (stop_of construct) here
+make_object w s here (Ok c) =
+    goes_on s here false here.frame.locals (Ref (free_number here.heap) ∷ here.frame.stack) (with_cell (Object c (new_fields w c)) here.heap)
 
 -- the outcome of making an object of the class with this index
 unfoldable pub new_object : World → Standing → Here → ℕ → Outcome
-new_object w s here i = make_object w s here (class_meant w s.class.pool i)
+new_object w s here i = make_object w s here (made_by w (class_name_at s.class.pool i))
 
 -- ---- what is thrown (JVMS 6.5.athrow)
 

@@ -18,6 +18,7 @@ use Rattle.machine.specs.declared.configuration.State.{State}
 use Rattle.machine.specs.declared.configuration.Status.TheVariants as statuses
 use Rattle.machine.specs.Numbers.{fits}
 use Rattle.descriptors.specs.Pieces.{parameters_of}
+use Rattle.descriptors.specs.Texts.{is_class}
 use Rattle.machine.specs.Types.{is_int_type, is_type}
 use Rattle.machine.specs.Heap.{Cells, cell_at, object_fields, is_of_type}
 use Rattle.machine.specs.Outcome.{method_at}
@@ -87,14 +88,9 @@ Reaches heap a b = (a ≡ b) ⊎ Leads heap a b
 abbrev pub IsAcyclic : Cells → ℕ → Type 0
 IsAcyclic heap a = (b : ℕ) → Reaches heap a b → ¬ Leads heap b b
 
--- of the types of classes, and not of arrays
-abbrev pub is_class_type : List ℕ → Bool
-is_class_type [] = false
-is_class_type (b ∷ type) = b == 76
-
 -- an argument is a reference of a class type only where it reaches no cycle
 abbrev pub HasLength : Cells → List ℕ → Value → Type 0
-HasLength heap type (Ref r) = IsTrue (is_class_type type) → IsAcyclic heap r
+HasLength heap type (Ref r) = IsTrue (is_class type) → IsAcyclic heap r
 HasLength heap type value = Unit {0}
 
 abbrev pub AllHaveLength : Cells → List (List ℕ) → List Value → Type 0

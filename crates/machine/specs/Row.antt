@@ -1,7 +1,7 @@
 -- What an instruction makes of what it sees, by cases (JVMS 6.5).
 use Rattle.std.specs.Prelude.{◌≡◌, ℕ, ◌+◌, ◌<◌, ◌≤◌, not, Bool, true, false, ℤ, neg_ℤ, ◌+ℤ◌, List, ◌∷◌, length, Option, Some, None, Ok, slice_set}
 use Rattle.class_pool.specs.declared.constant.Constant.{Constant}
-use Rattle.class_pool.specs.Pool.{constant_at, int_of, long_of}
+use Rattle.class_pool.specs.Pool.{class_name_at, constant_at, int_of, long_of, member_at}
 use Rattle.class_reader.specs.declared.class.Code.{Code}
 use Rattle.op_table.specs.Actions.{action_of}
 use Rattle.op_table.specs.declared.acts.Action.{Action}
@@ -18,8 +18,11 @@ use Rattle.op_table.specs.declared.acts.Small.{Small}
 use Rattle.op_table.specs.declared.acts.Width.{Width}
 use Rattle.op_table.specs.declared.acts.Width.TheVariants as widths
 use Rattle.world.specs.declared.member.MemberId.{MemberId}
-use Rattle.class_hierarchy.specs.World.{World, is_below, is_instantiable}
+use Rattle.class_hierarchy.specs.World.{World, is_below}
 use Rattle.world.specs.Selection.{method_of, selected_by}
+use Rattle.linking.specs.declared.calls.Meant.{Meant}
+use Rattle.linking.specs.Calls.{linked_by}
+use Rattle.linking.specs.Members.{made_by}
 use Rattle.machine.specs.declared.values.Value.{Value}
 use Rattle.machine.specs.declared.values.Value.TheVariants.{Int, Long, Pad, Null, Ref}
 use Rattle.machine.specs.declared.heap.Cell.TheVariants.{Object}
@@ -36,7 +39,7 @@ use Rattle.descriptors.specs.Texts.{words_of_all}
 use Rattle.machine.specs.Types.{is_type}
 use Rattle.machine.specs.Heap.{Cells, cell_at, free_number, with_cell, new_fields, is_of_type, is_of_class}
 use Rattle.machine.specs.Outcome.{Goes, Throws, Stops, Outcome, Stays, Enters, Leaves, Standing, code_at, went, next_pc, moved}
-use Rattle.machine.specs.Calling.{Meant, Handed, meant_at, linked, receiver_words, taken, are_words, waiting, new_frame, narrowed_to, class_meant}
+use Rattle.machine.specs.Calling.{Handed, receiver_words, taken, are_words, waiting, new_frame, narrowed_to}
 use Rattle.machine.specs.Step.{Step, standing_at, outcome_of}
 use Rattle.std.specs.Prelude.{codes}
 
@@ -112,18 +115,16 @@ pub data Dispatched (w : World) (heap : Cells) (class : ℕ) (m : MemberId) : Ca
       → cell_at heap r ≡ Some (Object c fields) → is_below w c class ≡ true → selected_by w m c ≡ Ok t
       → Dispatched w heap class m Interface (Ref r ∷ words) t
 
--- A call that enters a method: what it names, what that means, what it takes from the operand stack, which method
--- runs, and the frames.
+-- A call that enters a method: what it is linked to, what it takes from the operand stack, which method runs, and the
+-- frames.
 pub record Called (w : World) (s : Standing) (at : Here) (call : Call) (i : ℕ) (caller callee : Frame) : Type 0 where
   pub meant : Meant
-  pub names : meant_at w s.class.pool i ≡ Some meant
-  pub method : MemberId
-  pub links : linked w at.frame.method.class call meant ≡ Some method
+  pub links : linked_by w at.frame.method.class call (member_at s.class.pool i) ≡ Ok meant
   pub handed : Handed
-  pub takes : taken (receiver_words call + words_of_all (parameters_of (method_of w method).desc)) at.frame.stack ≡ Some handed
-  pub typed : are_words w at.heap call (parameters_of (method_of w method).desc) handed.words ≡ true
+  pub takes : taken (receiver_words call + words_of_all (parameters_of (method_of w meant.method).desc)) at.frame.stack ≡ Some handed
+  pub typed : are_words w at.heap call (parameters_of (method_of w meant.method).desc) handed.words ≡ true
   pub target : MemberId
-  pub dispatches : Dispatched w at.heap meant.class method call handed.words target
+  pub dispatches : Dispatched w at.heap meant.class meant.method call handed.words target
   pub code : Code
   pub has_code : code_at w target ≡ Some code
   pub holds : length handed.words ≤ code.max_locals
@@ -140,7 +141,7 @@ pub data Row (w : World) (s : Standing) (at : Here) : Action → Outcome → Typ
       → Computed s.class.pool at.frame.locals at.frame.stack action wrapping locals stack → HasRoom s at stack
       → Row w s at action (Stays (went wrapping) (moved s at locals stack at.heap))
   creates :
-      {i c : ℕ} → class_meant w s.class.pool i ≡ Some c → is_instantiable w c ≡ true
+      {i c : ℕ} → made_by w (class_name_at s.class.pool i) ≡ Ok c
       → HasRoom s at (Ref (free_number at.heap) ∷ at.frame.stack)
       → Row w s at (acts.New i) (Stays Goes (moved s at at.frame.locals (Ref (free_number at.heap) ∷ at.frame.stack) (with_cell (Object c (new_fields w c)) at.heap)))
   enters :

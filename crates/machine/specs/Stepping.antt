@@ -2,9 +2,11 @@
 use Rattle.std.specs.Prelude.{◌≡◌, ◌≤◌, ℕ, ◌+◌, ◌&&◌, Bool, false, List, [], ◌∷◌, length, drop, Option, Some, None, Result, Ok, Err, if◌then◌else◌}
 use Rattle.class_reader.specs.declared.class.Code.{Code}
 use Rattle.class_reader.specs.Flags.{is_native}
+use Rattle.op_table.specs.declared.construct.Construct.{Construct}
 use Rattle.world.specs.declared.member.MemberId.{MemberId}
 use Rattle.class_hierarchy.specs.World.{World, class_at}
 use Rattle.world.specs.Selection.{method_of}
+use Rattle.linking.specs.declared.calls.Meant.{Meant}
 use Rattle.machine.specs.declared.values.Value.{Value}
 use Rattle.machine.specs.declared.values.Value.TheVariants.{Ref}
 use Rattle.machine.specs.declared.heap.Cell.{Cell}
@@ -23,13 +25,12 @@ use Rattle.machine.specs.declared.change.Halt.{Halt}
 use Rattle.machine.specs.declared.change.Halt.TheVariants as halts
 use Rattle.machine.specs.declared.returning.Back.{Back}
 use Rattle.machine.specs.declared.returning.Back.TheVariants as backs
-use Rattle.machine.specs.declared.linking.Meaning.{Meaning}
 use Rattle.machine.specs.declared.calling.Entered.{Entered}
 use Rattle.machine.specs.Words.{Popped}
 use Rattle.machine.specs.Heap.{Cells, free_number, with_cell}
 use Rattle.machine.specs.Change.{effect_of}
 use Rattle.machine.specs.Outcome.{Effect, Goes, Wraps, Outcome, Stays, Enters, Leaves, Standing, code_at, next_pc, with_words}
-use Rattle.machine.specs.Calling.{Meant, are_arguments, has_locals, is_reference, new_frame, waiting}
+use Rattle.machine.specs.Calling.{stop_of, are_arguments, has_locals, is_reference, new_frame, waiting}
 use Rattle.machine.specs.Step.{in_frame, over, resumed, running, with_result}
 
 -- the instruction that comes next, the place behind it, and what it costs
@@ -75,19 +76,17 @@ IsBack value (caller ∷ callers) frame waiting =
 
 -- ---- calls
 
--- a name means this, or it means nothing, which stops the run; memory aside
+-- what a receiver's class selects is this, or nothing, which stops the run; memory aside
 abbrev pub Links : Result MemberId Halt → Option MemberId → Type 0
 Links (Ok m) meant = meant ≡ Some m
 Links (Err halts.Memory) meant = Unit {0}
 Links (Err (halts.Fails failure)) meant = (meant ≡ None) × (failure ≡ failures.Stops stops.Link)
 
-abbrev pub meant_of : Meaning → Meant
-meant_of m = record { class = m.class; method = m.method }
-
-abbrev pub Means : Result Meaning Halt → Option Meant → Type 0
-Means (Ok m) meant = meant ≡ Some (meant_of m)
-Means (Err halts.Memory) meant = Unit {0}
-Means (Err (halts.Fails failure)) meant = (meant ≡ None) × (failure ≡ failures.Stops stops.Link)
+-- a call is linked to this, or something stands against it, which stops the run; memory aside
+abbrev pub IsLinked : Result Meant Halt → Result Meant Construct → Type 0
+IsLinked (Ok m) meant = meant ≡ Ok m
+IsLinked (Err halts.Memory) meant = Unit {0}
+IsLinked (Err (halts.Fails failure)) meant = (construct : Construct) × (meant ≡ Err construct) × (failure ≡ failures.Stops (stop_of construct))
 
 -- the method that runs, or why none does; memory aside
 abbrev pub Selects : Result MemberId Halt → Result MemberId Effect → Type 0

@@ -1,6 +1,6 @@
 //! Calls (JVMS 6.5.invokevirtual).
 
-ghost use Rattle.std.specs.Prelude.{◌≡◌, ◌≤◌, length, Some, IfOk};
+ghost use Rattle.std.specs.Prelude.{◌≡◌, ◌≤◌, length, Ok, IfOk};
 ghost use Rattle.std.specs.Option.{option_copied};
 ghost use Rattle.world.specs.Tables.{HasMethod};
 ghost use Rattle.machine.specs.Heap.{class_of, is_of_class};
@@ -10,7 +10,7 @@ ghost use Rattle.class_reader.specs.Flags as flags;
 
 use crate::change::{Failure, Halt};
 use crate::handing::{are_words, receiver_words};
-use crate::linking::{UNLINKED, link, meant_by, select};
+use crate::links::{UNLINKED, link, select};
 use crate::turn::Turn;
 use crate::{Cell, Frame, Heap, Here, Locals, Stack, Stop, Thrown, Value};
 use class_reader::{Code, Method, is_native};
@@ -180,7 +180,6 @@ fn frame_of(alloc: Global, world: &World, method: MemberId, words: &[Value]) -> 
 }
 
 // The frame that a call of this method enters, by the words on the stack.
-
 fn hand_over(
     alloc: Global,
     world: &World,
@@ -189,7 +188,7 @@ fn hand_over(
     callee: Callee,
 ) -> Result<Entered, Halt>
     requires { HasMethod world.now callee.method }
-    ensures { HasEntered result turn.now.standing here.now (call_linked world.now turn.now.standing here.now callee.kind callee.class (Some callee.method)) }
+    ensures { HasEntered result turn.now.standing here.now (call_linked world.now turn.now.standing here.now callee.kind (Ok (record { class = callee.class; method = callee.method }))) }
 {
     let desc = world.method_at(callee.method).desc.as_slice();
     let count = receiver_words(callee.kind) + parameter_words(desc);
@@ -221,19 +220,18 @@ pub(crate) fn call(
     requires { IsNext world.now turn.now here.now }
     ensures { HasEntered result turn.now.standing here.now (call world.now turn.now.standing here.now kind index) }
 {
-    let meant = meant_by(alloc, world, &turn.class.pool, index)?;
-    let method = link(
+    let meant = link(
         alloc,
         world,
         here.frame.method.class,
-        turn.class,
         kind,
-        meant,
+        &turn.class.pool,
+        index,
     )?;
     let callee = Callee {
         kind,
         class: meant.class,
-        method,
+        method: meant.method,
     };
     hand_over(alloc, world, turn, here, callee)
 }

@@ -1,17 +1,19 @@
 //! New objects (JVMS 6.5.new).
 
-ghost use Rattle.std.specs.Prelude.{◌≡◌, ◌<◌, ◌^◌, [], ◌∷◌, ◌++◌, length, map, OnOk, OnErr, IfOk, IfSome};
+ghost use Rattle.std.specs.Prelude.{◌≡◌, ◌<◌, ◌^◌, [], ◌∷◌, ◌++◌, length, map, OnOk, OnErr, IfOk};
 ghost use Rattle.machine.specs.declared.heap.Cell.TheVariants as cells;
 ghost use Rattle.machine.specs.Heap.{default_of, is_object_field, new_fields, own_fields};
-ghost use Rattle.machine.specs.Calling.{class_meant, new_object};
+ghost use Rattle.machine.specs.Calling.{new_object};
 ghost use Rattle.machine.specs.Stepping.{HasGone, IsNext, IsMade};
 
 use crate::change::{Failure, Going, has_space};
+use crate::links::stop_of;
 use crate::turn::Turn;
 use crate::typing::is_int_type;
 use crate::{Cell, Here, Stop, Value};
-use class_pool::{Pool, Sequence};
+use class_pool::Sequence;
 use class_reader::{Field, is_static};
+use linking::made_by;
 use std::alloc::{AllocError, Global};
 use world::{MemberId, World};
 
@@ -93,14 +95,6 @@ fn new_fields(
     Ok(fields)
 }
 
-// The class that a Class entry names.
-fn class_meant(world: &World, pool: &Pool, index: u16) -> Option<u32>
-    ensures number { result ≡ class_meant world.now pool.now index }
-    ensures bound { IfSome result (λ c. c < length world.now) }
-{
-    world.class(pool.class_name(index)?)
-}
-
 // Puts an object into the heap and its number on the stack, and goes on behind. An `Err` changes nothing.
 fn add_object(
     class: u32,
@@ -140,12 +134,10 @@ pub(crate) fn new_object(
     ensures made { IfOk result (λ going. HasGone going here.old here.new (new_object world.now turn.now.standing here.old index)) }
     ensures err { OnErr result (here.new ≡ here.old) }
 {
-    let Some(class) = class_meant(world, &turn.class.pool, index) else {
-        return Ok(Going::Fails(Failure::Stops(Stop::Link)));
+    let class = match made_by(world, &turn.class.pool, index) {
+        Ok(class) => class,
+        Err(construct) => return Ok(Going::Fails(Failure::Stops(stop_of(construct)))),
     };
-    if !world.is_instantiable(class) {
-        return Ok(Going::Fails(Failure::Stops(Stop::Link)));
-    }
     let limit = usize::from(turn.code.max_stack);
     let held = has_space(here.frame.stack.len(), 0, 1, limit);
     let inside = (turn.next as usize) < turn.code.bytes.len();

@@ -6,7 +6,7 @@ ghost use Rattle.class_hierarchy.specs.World.{class_at};
 ghost use Rattle.world.specs.Resolution.{is_method};
 ghost use Rattle.world.specs.Tables.{HasMethod};
 ghost use Rattle.machine.specs.Outcome.{method_at};
-ghost use Rattle.machine.specs.Entry.{IsEntry, argument_types, entry_of, is_class_type, words_of_value, words_of_values};
+ghost use Rattle.machine.specs.Entry.{IsEntry, argument_types, entry_of, words_of_value, words_of_values};
 ghost use Rattle.machine.specs.EnteringHeap.{IsSurvey};
 ghost use Rattle.machine.specs.Entering.{IsEnterFault, IsEntered, IsFirstFault, IsFirstIn, IsNoNullReceiver, IsSound, method_named, zeros};
 
@@ -17,6 +17,7 @@ use crate::entering_types::argument_types;
 use crate::{Frame, Heap, Here, Locals, Stack, State, Status, Value};
 use class_pool::{Sequence, Target, Text};
 use class_reader::{Code, Method, is_static};
+use descriptors::is_class;
 use std::alloc::{AllocError, AllocFailed, Global};
 use world::{MemberId, World};
 
@@ -52,13 +53,6 @@ impl<T: Drop> From<AllocFailed<T>> for EnterFault {
     }
 }
 
-// Whether the type is that of a class, and not of an array.
-fn is_class_type(desc: &[u8]) -> bool
-    ensures { result ≡ is_class_type desc.now }
-{
-    matches!(desc, [b'L', ..])
-}
-
 // Whether the value can be an argument of the type.
 #[tactic(auto, using(crate::proofs::EnteringSound::rooted, crate::proofs::EnteringSound::sound_reference, crate::proofs::EnteringSound::sound_other, crate::proofs::EnteringSound::not_sound))]
 fn is_sound(
@@ -77,7 +71,7 @@ fn is_sound(
     }
     match value {
         Value::Ref(number) => {
-            let passes = all_pass(alloc, survey, number, is_class_type(desc))?;
+            let passes = all_pass(alloc, survey, number, is_class(desc))?;
             Ok(passes)
         }
         _ => Ok(true),

@@ -18,7 +18,7 @@ mod handing;
 mod heap;
 mod ints;
 mod laws;
-mod linking;
+mod links;
 mod longs;
 mod reading;
 mod returning;

@@ -1,5 +1,3 @@
-mod Tellings
-mod TargetLists
 mod Placings
 mod Scans
 pub mod Members

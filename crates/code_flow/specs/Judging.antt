@@ -14,23 +14,16 @@ use Rattle.op_table.specs.declared.acts.Call.{Call}
 use Rattle.op_table.specs.declared.construct.Construct.{Construct}
 use Rattle.op_table.specs.declared.construct.Construct.TheVariants as constructs
 use Rattle.world.specs.declared.member.MemberId.{MemberId}
-use Rattle.class_hierarchy.specs.World.{World, class_at, number_of, is_instantiable}
-use Rattle.descriptors.specs.Texts.{is_array, names_float}
+use Rattle.class_hierarchy.specs.World.{World, class_at}
+use Rattle.descriptors.specs.Texts.{names_float}
+use Rattle.linking.specs.Told.{construct_if}
+use Rattle.linking.specs.References.{against_call}
+use Rattle.linking.specs.Calls.{called_by}
+use Rattle.linking.specs.Members.{made_by}
 use Rattle.machine.specs.Outcome.{method_at}
 use Rattle.code_flow.specs.Placing.{Placed, placed, broken, is_last}
-use Rattle.code_flow.specs.Linking.{called}
 
 -- ---- what is known before names are looked up
-
-abbrev pub construct_if : Bool → Construct → Option Construct
-construct_if true construct = Some construct
-construct_if false construct = None
-
--- a call's member reference (JVMS 4.4.2); a class's name that is an array's begins with a bracket (JVMS 4.4.1)
-abbrev pub against_reference : Option (ℕ × List ℕ × List ℕ × List ℕ) → Option Construct
-against_reference None = Some constructs.Constant
-against_reference (Some (tag, class, name, desc)) =
-    if names_float desc then Some constructs.Float else construct_if (is_array class) constructs.ArrayMethod
 
 -- what the opcode and its operands show. What isn't built yet: jumps, and what reads or writes arrays, fields and
 -- statics or looks at the classes of objects.
@@ -38,7 +31,7 @@ abbrev pub shown : List (Option Constant) → Action → Option Construct
 shown pool (acts.Outside construct) = Some construct
 shown pool (acts.PushConstant i) = construct_if (not (is_some (int_at pool i))) constructs.Constant
 shown pool (acts.PushLongConstant i) = construct_if (not (is_some (long_at pool i))) constructs.Constant
-shown pool (acts.Call call i) = against_reference (member_at pool i)
+shown pool (acts.Call call i) = against_call (member_at pool i)
 shown pool (acts.New i) = construct_if (not (is_some (class_name_at pool i))) constructs.Constant
 shown pool (acts.IfZero test distance) = Some constructs.Later
 shown pool (acts.IfInts test distance) = Some constructs.Later
@@ -68,24 +61,15 @@ is_end action = false
 
 -- ---- what names mean
 
-abbrev pub made_of : World → List ℕ → Option ℕ → Result (List MemberId) Construct
-made_of w name None = Err constructs.MissingClass
-made_of w name (Some c) =
-    if is_array name then Err constructs.MissingClass
-    else if is_instantiable w c then Ok [] else Err constructs.Incompatible
-
-abbrev pub made_by : World → Option (List ℕ) → Result (List MemberId) Construct
-made_by w None = Err constructs.Constant
-made_by w (Some name) = made_of w name (number_of w name)
-
-abbrev pub called_by : World → ℕ → Call → Option (ℕ × List ℕ × List ℕ × List ℕ) → Result (List MemberId) Construct
-called_by w current call None = Err constructs.Constant
-called_by w current call (Some (tag, class, name, desc)) = called w current call class name desc
+-- an object of a class runs no method when it is made
+abbrev pub runs_none : Result ℕ Construct → Result (List MemberId) Construct
+runs_none (Ok c) = Ok []
+runs_none (Err construct) = Err construct
 
 -- the methods that an instruction of the current class can call
 abbrev pub meant : World → ℕ → List (Option Constant) → Action → Result (List MemberId) Construct
 meant w current pool (acts.Call call i) = called_by w current call (member_at pool i)
-meant w current pool (acts.New i) = made_by w (class_name_at pool i)
+meant w current pool (acts.New i) = runs_none (made_by w (class_name_at pool i))
 meant w current pool action = Ok []
 
 -- ---- an instruction

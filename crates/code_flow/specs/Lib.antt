@@ -1,11 +1,8 @@
-pub mod TargetList
 pub mod Placing
-pub mod Linking
 pub mod Judging
 pub mod Listing
 pub mod Flow
 pub mod Program
-pub mod Telling
 pub mod Scanning
 pub mod ThereScanning
 pub mod Numbering

@@ -1,45 +1,19 @@
 //! What stands against an instruction, or the methods that it can call.
 
-ghost use Rattle.std.specs.Prelude.{◌≡◌, ◌+◌, ◌<◌, ◌≤◌, length, IfOk, All, not, ◌==◌};
+ghost use Rattle.std.specs.Prelude.{◌≡◌, ◌+◌, ◌<◌, ◌≤◌, [], length, IfOk, All, not, ◌==◌};
 ghost use Rattle.std.specs.Option.{option_map, option_copied};
-ghost use Rattle.class_pool.specs.Pool.{member_at, class_name_at};
-ghost use Rattle.class_hierarchy.specs.World.{class_at, number_of};
+ghost use Rattle.class_hierarchy.specs.World.{class_at};
 ghost use Rattle.world.specs.Tables.{HasMethod};
+ghost use Rattle.linking.specs.Told.{Tells};
 ghost use Rattle.code_flow.specs.Placing.{is_last};
-ghost use Rattle.code_flow.specs.Judging.{construct_if, against_reference, shown, is_end, made_of, made_by, called_by, meant, judged};
-ghost use Rattle.code_flow.specs.Telling.{Tells};
+ghost use Rattle.code_flow.specs.Judging.{shown, is_end, runs_none, meant, judged};
 
-use crate::linking::called;
-use crate::telling::LinkFault;
-use class_pool::{Pool, Sequence, Text};
-use descriptors::{is_array, names_float};
-use op_table::acts::{Action, Call};
+use class_pool::{Pool, Sequence};
+use linking::{LinkFault, against_call, called_by, construct_if, made_by};
+use op_table::acts::Action;
 use op_table::{Construct, Instr, action_of};
 use std::alloc::Global;
 use world::{MemberId, World};
-
-// The construct, where there is one.
-fn construct_if(stands: bool, construct: Construct) -> Option<Construct>
-    ensures { result ≡ construct_if stands construct }
-{
-    if stands { Some(construct) } else { None }
-}
-
-// What stands against the member reference of a call, before names are looked up.
-fn against_reference(pool: &Pool, i: u16) -> Option<Construct>
-    ensures { result ≡ against_reference (member_at pool.now i) }
-{
-    match pool.member(i) {
-        Some((_, class, _, desc)) => {
-            if names_float(desc.as_slice()) {
-                Some(Construct::Float)
-            } else {
-                construct_if(is_array(class.as_slice()), Construct::ArrayMethod)
-            }
-        }
-        None => Some(Construct::Constant),
-    }
-}
 
 // What the opcode and its operands show.
 fn shown(pool: &Pool, action: Action) -> Option<Construct>
@@ -49,7 +23,7 @@ fn shown(pool: &Pool, action: Action) -> Option<Construct>
         Action::Outside(construct) => Some(construct),
         Action::PushConstant(i) => construct_if(!pool.int(i).is_some(), Construct::Constant),
         Action::PushLongConstant(i) => construct_if(!pool.long(i).is_some(), Construct::Constant),
-        Action::Call(_, i) => against_reference(pool, i),
+        Action::Call(_, i) => against_call(pool, i),
         Action::New(i) => construct_if(!pool.class_name(i).is_some(), Construct::Constant),
         Action::IfZero(_, _)
         | Action::IfInts(_, _)
@@ -100,47 +74,14 @@ fn is_end(action: Action) -> bool
     )
 }
 
-// Whether an object can be made of the class of this name.
-fn made_of(alloc: Global, w: &World, name: &Text) -> Result<Sequence<MemberId>, LinkFault>
-    ensures there { IfOk result (λ ts. All (HasMethod w.now) ts) }
-    ensures exact { Tells result (made_of w.now name.now (number_of w.now name.now)) }
+// An object of a class runs no method when it is made.
+fn runs_none(alloc: Global, made: Result<u32, Construct>) -> Result<Sequence<MemberId>, LinkFault>
+    ensures none { IfOk result (λ ts. ts ≡ []) }
+    ensures exact { Tells result (runs_none made) }
 {
-    let Some(class) = w.class(name) else {
-        return Err(LinkFault::Against(Construct::MissingClass));
-    };
-    if is_array(name.as_slice()) {
-        return Err(LinkFault::Against(Construct::MissingClass));
-    }
-    if !w.is_instantiable(class) {
-        return Err(LinkFault::Against(Construct::Incompatible));
-    }
-    Ok(Sequence::new(alloc))
-}
-
-fn made_by(alloc: Global, w: &World, pool: &Pool, i: u16) -> Result<Sequence<MemberId>, LinkFault>
-    ensures there { IfOk result (λ ts. All (HasMethod w.now) ts) }
-    ensures exact { Tells result (made_by w.now (class_name_at pool.now i)) }
-{
-    match pool.class_name(i) {
-        Some(name) => made_of(alloc, w, name),
-        None => Err(LinkFault::Against(Construct::Constant)),
-    }
-}
-
-fn called_by(
-    alloc: Global,
-    w: &World,
-    current: u32,
-    call: Call,
-    i: u16,
-) -> Result<Sequence<MemberId>, LinkFault>
-    requires { current < length w.now }
-    ensures there { IfOk result (λ ts. All (HasMethod w.now) ts) }
-    ensures exact { Tells result (called_by w.now current call (member_at (class_at w.now current).pool i)) }
-{
-    match w.record_at(current).pool.member(i) {
-        Some((_, class, name, desc)) => called(alloc, w, current, call, (class, name, desc)),
-        None => Err(LinkFault::Against(Construct::Constant)),
+    match made {
+        Ok(_) => Ok(Sequence::new(alloc)),
+        Err(construct) => Err(LinkFault::Against(construct)),
     }
 }
 
@@ -155,9 +96,10 @@ fn meant(
     ensures there { IfOk result (λ ts. All (HasMethod w.now) ts) }
     ensures exact { Tells result (meant w.now current (class_at w.now current).pool action) }
 {
+    let pool = &w.record_at(current).pool;
     match action {
-        Action::Call(call, i) => called_by(alloc, w, current, call, i),
-        Action::New(i) => made_by(alloc, w, &w.record_at(current).pool, i),
+        Action::Call(call, i) => called_by(alloc, w, current, call, pool, i),
+        Action::New(i) => runs_none(alloc, made_by(w, pool, i)),
         _ => Ok(Sequence::new(alloc)),
     }
 }

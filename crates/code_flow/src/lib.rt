@@ -8,13 +8,11 @@ mod flowing;
 mod found;
 mod judging;
 mod laws;
-mod linking;
 mod listing;
 mod ordering;
 mod planning;
 mod program;
 mod scanning;
-mod telling;
 
 pub use fault::FlowFault;
 pub use flowing::flow;

@@ -8,10 +8,10 @@ ghost use Rattle.code_flow.specs.Scanning.{site_of, sites_of, first_against, sca
 ghost use Rattle.code_flow.specs.ThereScanning.{HasTargets, AreThere};
 
 use crate::judging::judged;
-use crate::telling::LinkFault;
 use class_pool::Sequence;
 use class_reader::{Code, Handler, Method, is_synchronized};
 use descriptors::names_float;
+use linking::LinkFault;
 use op_table::{Construct, Instr, decode, instrs_fit};
 use std::alloc::{AllocError, Global};
 use world::{MemberId, World};

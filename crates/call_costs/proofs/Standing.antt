@@ -1,6 +1,6 @@
 -- Each step of an activation of a program's method keeps that it stands in the program.
 use Rattle.std.proofs.Common.{◌≡◌, ℕ, ◌+◌, ◌<◌, Bool, true, false, ◌&&◌, List, ◌∷◌, length, Option, Some, None, refl, sym, ◌∙◌, ap, subst, Contains, nat_le, nat_lt}
-use Rattle.std.specs.Prelude.{if◌then◌else◌, option_and_then}
+use Rattle.std.specs.Prelude.{if◌then◌else◌}
 use Rattle.std.proofs.lemmas.Bool.{ltb-true}
 use Rattle.std.proofs.lemmas.List.Elements.{All-nil, All-cons}
 use Rattle.class_pool.specs.declared.constant.Constant.{Constant}
@@ -14,7 +14,7 @@ use Rattle.world.specs.declared.member.MemberId.{MemberId}
 use Rattle.class_hierarchy.specs.World.{World, number_of}
 use Rattle.class_hierarchy.specs.Building.{IsWellBuilt}
 use Rattle.world.specs.Selection.{method_of}
-use Rattle.class_hierarchy.proofs.Cycles.{number_below}
+use Rattle.linking.proofs.Made.{made_there}
 use Rattle.nested_runs.specs.Keeping.{Keeps}
 use Rattle.machine.specs.declared.values.Value.{Value}
 use Rattle.machine.specs.declared.values.Value.TheVariants.{Ref}
@@ -73,10 +73,6 @@ computed_goes_on (rows.long_to_int is) = refl
 computed_goes_on (rows.narrow is) = refl
 computed_goes_on (rows.compare is) = refl
 
-named_below : (w : World) (name : Option (List ℕ)) (c : ℕ) → option_and_then (number_of w) name ≡ Some c → c < length w
-named_below w None c e = absurd cc
-named_below w (Some name) c e = number_below w name c e
-
 pub goes_on : (w : World) (s : Standing) (a b : Here) (effect : Effect) {action : Action} {o : Outcome} → Row w s a action o → o ≡ Stays effect b → MayGo false effect
     → GoesOn w s a b action
 goes_on w s a b effect (rows.computes {locals = locals} {stack = stack} c room) e may = record {
@@ -89,10 +85,10 @@ goes_on w s a b effect (rows.computes {locals = locals} {stack = stack} c room) 
   grows = grows_self w a.heap;
   known = λ l k. computed_known w a.heap c l k;
 }
-goes_on w s a b effect (rows.creates {i = i} {c = c} means made room) e may =
+goes_on w s a b effect (rows.creates {i = i} {c = c} means room) e may =
     let stack = Ref (free_number a.heap) ∷ a.frame.stack in
     let heap = with_cell (Object c (new_fields w c)) a.heap in
-    let is_made : IsMade w c = (named_below w (class_name_at s.class.pool i) c means, made) in
+    let is_made : IsMade w c = made_there w (class_name_at s.class.pool i) c means in
     let grows = grows_new w a.heap c (new_fields w c) is_made in
     record {
       locals = a.frame.locals;
@@ -126,7 +122,7 @@ pub record Calls (w : World) (s : Standing) (a : Here) (action : Action) (caller
 
 pub enters_by : (w : World) (s : Standing) (a : Here) (caller callee : Frame) {action : Action} {o : Outcome} → Row w s a action o → o ≡ Enters caller callee → Calls w s a action caller callee
 enters_by w s a caller callee (rows.computes c room) e = absurd cc
-enters_by w s a caller callee (rows.creates means made room) e = absurd cc
+enters_by w s a caller callee (rows.creates means room) e = absurd cc
 enters_by w s a caller callee (rows.enters {call = call} {i = i} {caller = one} {callee = other} called) e =
     let first : one ≡ caller = cc in
     let second : other ≡ callee = cc in
@@ -150,7 +146,7 @@ IsResult w heap (Some value) = IsKnown w heap value
 
 leaves_with : (w : World) (s : Standing) (a : Here) (value : Option Value) {action : Action} {o : Outcome} → Row w s a action o → o ≡ Leaves value → AreKnown w a.heap a.frame.stack → IsResult w a.heap value
 leaves_with w s a value (rows.computes c room) e known = absurd cc
-leaves_with w s a value (rows.creates means made room) e known = absurd cc
+leaves_with w s a value (rows.creates means room) e known = absurd cc
 leaves_with w s a value (rows.enters called) e known = absurd cc
 leaves_with w s a value (rows.returns {kind = kind} {p = p} is typed) e known =
     let got = popped_known w a.heap kind a.frame.stack p is known in
@@ -242,9 +238,9 @@ module _ {w : World} {first : MemberId} {program : List Reached} (weights : ℕ 
       let p = plan_of w first program a is s in
       let c = call_by s makes in
       let called = c.called in
-      let words = (taken_known w a.heap (receiver_words c.call + words_of_all (parameters_of (method_of w called.method).desc)) a.frame.stack called.handed called.takes s.stack).0 in
-      let links = call_links w a.frame.method.class s.code.bytes (record { pc = a.frame.pc; instr = p.instr }) c.call c.index p.targets called.meant called.method p.verdict c.is called.names called.links in
-      dispatched_target w a.heap a.frame.method.class called.meant called.method p.targets called.dispatches well words called.links links
+      let words = (taken_known w a.heap (receiver_words c.call + words_of_all (parameters_of (method_of w called.meant.method).desc)) a.frame.stack called.handed called.takes s.stack).0 in
+      let links = call_links w a.frame.method.class s.code.bytes (record { pc = a.frame.pc; instr = p.instr }) c.call c.index p.targets called.meant p.verdict c.is called.links in
+      dispatched_target w a.heap called.meant p.targets called.dispatches well words links.0 links.1
 
   started_stands : {a b : Here} {k : ℕ} → IsStanding w program a → Starts w weights a k b → IsStanding w program b
   started_stands {a = a} {b = b} s st =
@@ -252,7 +248,7 @@ module _ {w : World} {first : MemberId} {program : List Reached} (weights : ℕ 
       let c = call_by s st.makes in
       let called = c.called in
       let listed : IsListed program called.target = is.closed a.frame.method called.target (plan_calls w first program a called.target is s p (call_target s st.makes)) in
-      let words = (taken_known w a.heap (receiver_words c.call + words_of_all (parameters_of (method_of w called.method).desc)) a.frame.stack called.handed called.takes s.stack).0 in
+      let words = (taken_known w a.heap (receiver_words c.call + words_of_all (parameters_of (method_of w called.meant.method).desc)) a.frame.stack called.handed called.takes s.stack).0 in
       let now : in_frame a (new_frame called.target called.code called.handed.words) ≡ b = sym (st.begins ∙ ap (in_frame a) called.enters) in
       subst (λ (x : Here). IsStanding w program x) now
       (record {
@@ -293,7 +289,7 @@ module _ {w : World} {first : MemberId} {program : List Reached} (weights : ℕ 
       let back = back_by s re in
       let waits : re.caller ≡ waiting this a called.handed.rest = called.waits in
       let inside : a.frame.pc + p.instr.len < length s.code.bytes = subst (λ (f : Frame). f.pc < length s.code.bytes) waits back.inside in
-      let rest = (taken_known w a.heap (receiver_words c.call + words_of_all (parameters_of (method_of w called.method).desc)) a.frame.stack called.handed called.takes s.stack).1 in
+      let rest = (taken_known w a.heap (receiver_words c.call + words_of_all (parameters_of (method_of w called.meant.method).desc)) a.frame.stack called.handed called.takes s.stack).1 in
       let frame : Frame = with_words a.frame (a.frame.pc + p.instr.len) a.frame.locals (with_result e.value called.handed.rest) in
       let is_frame : frame ≡ re.frame = sym (back.now ∙ ap (λ (f : Frame). with_words f f.pc f.locals (with_result e.value f.stack)) waits) in
       let now : record { frame = frame; heap = e.heap; statics = e.statics } ≡ r = ap (λ (f : Frame). record { frame = f; heap = e.heap; statics = e.statics }) is_frame ∙ sym re.now in

@@ -1,23 +1,10 @@
 -- how the marks of an agenda follow its list
-use Rattle.std.proofs.Common.{◌≡◌, ◌≢◌, ◌⊎◌, ℕ, zero, suc, ◌+◌, ◌<◌, ◌≤◌, Bool, true, false, List, [], ◌∷◌, ◌++◌, length, get_or, set, Contains, refl, sym, ◌∙◌, inl, inr, ⊎_elim, subst, arith, get_or-set_same, get_or-set_other}
+use Rattle.std.proofs.Common.{◌≡◌, ◌≢◌, ◌⊎◌, ℕ, ◌+◌, ◌<◌, ◌≤◌, Bool, true, false, List, [], ◌∷◌, ◌++◌, length, get_or, set, Contains, refl, sym, ◌∙◌, inl, inr, ⊎_elim, subst, arith, get_or-set_same, get_or-set_other}
 use Rattle.std.proofs.lemmas.Bool.{cases_eq, cases_lt, false≢true}
 use Rattle.std.proofs.lemmas.List.{length-set, get_or_past, get_or_default}
-use Rattle.std.proofs.lemmas.List.Elements.{Contains-append_left, Contains-append_right, Contains-push, Contains-push_cases}
+use Rattle.std.proofs.lemmas.List.Elements.{Contains-append_left, Contains-push, Contains-push_cases}
+use Rattle.common_laws.proofs.Members.{contains_head, contains_tail, contains_cases}
 use Rattle.fix_engine.specs.Agenda.{Waiting, IsMarked, Grows}
-
-contains_cons_at : (y : ℕ) (ys : List ℕ) (x k : ℕ) → k < length (y ∷ ys) → get_or (y ∷ ys) k x ≡ x → (y ≡ x) ⊎ Contains ys x
-contains_cons_at y ys x zero l e = inl e
-contains_cons_at y ys x (suc k) l e = inr (k, omega arith, e)
-
--- what a list has, its head is or its tail has
-pub Contains-cons_cases : (y : ℕ) (ys : List ℕ) (x : ℕ) → Contains (y ∷ ys) x → (y ≡ x) ⊎ Contains ys x
-Contains-cons_cases y ys x h = contains_cons_at y ys x h.0 h.1 h.2
-
-pub Contains-cons_tail : (y : ℕ) (ys : List ℕ) (x : ℕ) → Contains ys x → Contains (y ∷ ys) x
-Contains-cons_tail y ys x h = Contains-append_right (y ∷ []) ys x h
-
-pub Contains-cons_head : (y : ℕ) (ys : List ℕ) → Contains (y ∷ ys) y
-Contains-cons_head y ys = (0, omega arith, refl)
 
 -- the numbers below n, in order
 pub Contains-below : (n : ℕ) (list : List ℕ) → length list ≡ n → ((k : ℕ) → k < n → get_or list k 0 ≡ k) → (x : ℕ) → x < n → Contains list x
@@ -47,21 +34,21 @@ marked_pop_at marks e rest m l x h (inl same) =
     let k : get_or (set marks e false) x false ≡ false = subst (λ (y : ℕ). get_or (set marks e false) y false ≡ false) (sym same) (get_or-set_same marks e false false l) in
     absurd (false≢true (sym k ∙ h))
 marked_pop_at marks e rest m l x h (inr other) =
-    ⊎_elim (λ (same : e ≡ x). absurd (other (sym same))) (λ (in_rest : Contains rest x). in_rest) (Contains-cons_cases e rest x (m.marked x (sym (get_or-set_other marks e x false false other) ∙ h)))
+    ⊎_elim (λ (same : e ≡ x). absurd (other (sym same))) (λ (in_rest : Contains rest x). in_rest) (contains_cases e rest x (m.marked x (sym (get_or-set_other marks e x false false other) ∙ h)))
 
 -- the head is unmarked as it leaves
 pub IsMarked-pop : (marks : List Bool) (list : List ℕ) (e : ℕ) (rest : List ℕ) → list ≡ e ∷ rest → IsMarked marks list → IsMarked (set marks e false) rest
 IsMarked-pop marks list e rest is was =
     let m : IsMarked marks (e ∷ rest) = subst (IsMarked marks) is was in
-    let l : e < length marks = m.within e (Contains-cons_head e rest) in
+    let l : e < length marks = m.within e (contains_head e rest) in
     record {
-      within = λ x h. let w : x < length marks = m.within x (Contains-cons_tail e rest x h) in omega (arith, length-set marks e false);
+      within = λ x h. let w : x < length marks = m.within x (contains_tail e rest x h) in omega (arith, length-set marks e false);
       marked = λ x h. marked_pop_at marks e rest m l x h (cases_eq x e);
     }
 
 pub head_is_within : (marks : List Bool) (list : List ℕ) (e : ℕ) (rest : List ℕ) → list ≡ e ∷ rest → IsMarked marks list → e < length marks
 head_is_within marks list e rest is was =
-    let m : IsMarked marks (e ∷ rest) = subst (IsMarked marks) is was in m.within e (Contains-cons_head e rest)
+    let m : IsMarked marks (e ∷ rest) = subst (IsMarked marks) is was in m.within e (contains_head e rest)
 
 marked_push_at : (marks : List Bool) (list : List ℕ) (e : ℕ) → IsMarked marks list → (x : ℕ) → get_or (set marks e true) x false ≡ true → (x ≡ e) ⊎ (x ≢ e) → Contains (list ++ e ∷ []) x
 marked_push_at marks list e m x h (inl same) = subst (Contains (list ++ e ∷ [])) (sym same) (Contains-push list e)

@@ -15,7 +15,7 @@ use Rattle.fix_engine.specs.Derived.IsDerived.{start, joins}
 use Rattle.fix_engine.specs.Readers.{AreReaders, AllWait, readers_of, reads, facts_read}
 use Rattle.fix_engine.specs.Search.{IsRising, IsOnTheWay, IsMet, MetOrWaits, EndsWithin, visits_left}
 use Rattle.fix_engine.proofs.Points.{at_points-at, at_points-read, at_points-set_same, at_points-set_other, option_map-same, also_cases, carried_fact, carried_below}
-use Rattle.fix_engine.proofs.Agendas.{Contains-cons_cases}
+use Rattle.common_laws.proofs.Members.{contains_cases}
 use Rattle.fix_engine.proofs.Counts.{reads_small}
 
 -- a rise at a point takes back the visits of its readers
@@ -101,7 +101,7 @@ module _ {Fact : Type 0} (order : Order Fact) (p : Problem Fact) (law : IsLawful
     -- an edge whose goal didn't change is met
     pub MetOrWaits-same : (waiting : List ℕ) → order.join (at_points p facts (p.goal e)) (carried p (at_points p facts) e) ≡ at_points p facts (p.goal e) → MetOrWaits order p facts (e ∷ waiting) → MetOrWaits order p facts waiting
     MetOrWaits-same waiting same was x m =
-        ⊎_elim (λ (h : IsMet order p facts x). inl h) (λ (h : Contains (e ∷ waiting) x). ⊎_elim (λ (i : e ≡ x). inl (subst (IsMet order p facts) i met)) (λ (i : Contains waiting x). inr i) (Contains-cons_cases e waiting x h)) (was x m)
+        ⊎_elim (λ (h : IsMet order p facts x). inl h) (λ (h : Contains (e ∷ waiting) x). ⊎_elim (λ (i : e ≡ x). inl (subst (IsMet order p facts) i met)) (λ (i : Contains waiting x). inr i) (contains_cases e waiting x h)) (was x m)
       where
         met : IsMet order p facts e
         met = subst (Below order (carried p (at_points p facts) e)) same ((law.joined (p.goal e) g_in).right _ _ old_fact made_fact)
@@ -209,7 +209,7 @@ module _ {Fact : Type 0} (order : Order Fact) (p : Problem Fact) (law : IsLawful
 
         unread : (x : ℕ) → x < p.edges → carried p (at_points p (set facts (p.goal e) joined)) x ≡ carried p (at_points p facts) x → IsMet order p (set facts (p.goal e) joined) x ⊎ Contains more x
         unread x m same =
-            ⊎_elim (λ (h : IsMet order p facts x). inl (met_still x m same h)) (λ (h : Contains (e ∷ waiting) x). ⊎_elim (λ (i : e ≡ x). inl (subst (λ (y : ℕ). carried p (at_points p (set facts (p.goal e) joined)) y ≡ carried p (at_points p facts) y → IsMet order p (set facts (p.goal e) joined) y) i met_here same)) (λ (i : Contains waiting x). inr (kept x i)) (Contains-cons_cases e waiting x h)) (was x m)
+            ⊎_elim (λ (h : IsMet order p facts x). inl (met_still x m same h)) (λ (h : Contains (e ∷ waiting) x). ⊎_elim (λ (i : e ≡ x). inl (subst (λ (y : ℕ). carried p (at_points p (set facts (p.goal e) joined)) y ≡ carried p (at_points p facts) y → IsMet order p (set facts (p.goal e) joined) y) i met_here same)) (λ (i : Contains waiting x). inr (kept x i)) (contains_cases e waiting x h)) (was x m)
 
         by_also : (x : ℕ) → x < p.edges → p.source x ≢ p.goal e → IsMet order p (set facts (p.goal e) joined) x ⊎ Contains more x
         by_also x m o =

@@ -11,7 +11,7 @@ use Rattle.op_table.specs.declared.acts.Action.{Action}
 use Rattle.op_table.specs.declared.acts.Action.TheVariants as acts
 use Rattle.op_table.specs.declared.acts.Call.{Call}
 use Rattle.world.specs.declared.member.MemberId.{MemberId}
-use Rattle.class_hierarchy.specs.World.{World, number_of}
+use Rattle.class_hierarchy.specs.World.{World}
 use Rattle.class_hierarchy.specs.Building.{IsWellBuilt}
 use Rattle.world.specs.Selection.{method_of}
 use Rattle.linking.proofs.Made.{made_there}

@@ -1,6 +1,6 @@
 -- What stands at the places of a method's code: the methods that an instruction can call, or the construct that
 -- isn't analysed.
-use Rattle.std.specs.Prelude.{ℕ, not, ◌/◌, ◌%◌, ◌==◌, ◌||◌, ◌&&◌, Bool, true, false, List, [], ◌∷◌, ◌++◌, map, Option, Some, None, is_some, Result, Ok, Err, if◌then◌else◌}
+use Rattle.std.specs.Prelude.{ℕ, not, ◌&&◌, Bool, true, false, List, [], ◌∷◌, ◌++◌, map, Option, Some, None, is_some, Result, Ok, Err}
 use Rattle.class_pool.specs.declared.constant.Constant.{Constant}
 use Rattle.class_pool.specs.Pool.{class_name_at, member_at, int_at, long_at}
 use Rattle.class_reader.specs.Flags.{is_synchronized}

@@ -45,7 +45,7 @@ use Rattle.machine.specs.declared.configuration.Thrown.{Thrown}
 use Rattle.machine.specs.declared.configuration.Thrown.TheVariants as thrown
 use Rattle.machine.specs.Numbers.{wrapped, exact, throws, wraps, distance, shifted, combined, narrowed, compared}
 use Rattle.machine.specs.Words.{Popped, PoppedNumber, PoppedTwo, popped, popped_number, popped_two, shuffled, loaded, stored}
-use Rattle.machine.specs.Outcome.{Effect, Goes, Wraps, Throws, Stops, Stays, Enters, Leaves, Standing, code_at, went, next_pc, moved, has_room, goes_on}
+use Rattle.machine.specs.Outcome.{Effect, Goes, Wraps, Throws, Stops, Stays, Enters, Leaves, Standing, code_at, went, next_pc, moved, has_room}
 use Rattle.machine.specs.Computing as making
 use Rattle.machine.specs.Computing.{Made, Makes, Fails, made, words_after}
 use Rattle.machine.specs.Row as rows

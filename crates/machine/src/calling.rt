@@ -169,7 +169,6 @@ fn new_frame(
 }
 
 // The frame of a method that takes over words. A native method isn't analysed, and an abstract one has no code.
-
 fn frame_of(alloc: Global, world: &World, method: MemberId, words: &[Value]) -> Result<Frame, Halt>
     ensures { Gives result (frame_of world.now method words.now) }
 {

@@ -4,99 +4,113 @@
 
 use bound_terms::{Base, Bound, Nat, value};
 use bound_text::print;
-use case_texts::CaseError;
-use case_texts::texts::{text_of, words_of};
-use lin_rows::Lin;
-use std::alloc::Global;
+use case_texts::Case;
+use case_texts::texts::put_text;
+use number_cases::lin_of;
 
-fn lin_of(alloc: Global, text: &str) -> Result<Lin, CaseError> {
-    let mut numbers = Vec::new(alloc);
-    for word in text.split(',') {
-        numbers.push(word.parse::<i128>()?)?;
-    }
-    let constant = numbers.pop().ok_or("an expression has a constant")?;
-    if numbers.len() > u32::MAX as usize {
-        return Err(CaseError::Malformed("too many coefficients"));
-    }
-    Ok(Lin::new(alloc, numbers.as_slice(), constant)?)
-}
-
-fn nat_of(alloc: Global, text: &str) -> Result<Nat, CaseError> {
-    let (expression, divisor) = text.split_once('/').ok_or("a nat has a `/`")?;
-    let expression = lin_of(alloc, expression)?;
-    let divisor = divisor.parse::<u128>()?;
+fn nat_of(case: &mut Case<'_>, text: &str) -> Option<Nat> {
+    let (expression, divisor) = case.halves(text, "/");
+    let divisor = case.parsed(divisor);
     if divisor == 0 {
-        return Err(CaseError::Malformed("a divisor isn't 0"));
+        case.malformed("a divisor isn't 0");
+        return None;
     }
-    Ok(Nat::new(expression, divisor))
+    let expression = lin_of(case, expression, ',')?;
+    Some(Nat::new(expression, divisor))
 }
 
-fn powers_of(alloc: Global, text: &str) -> Result<(Base, Nat), CaseError> {
-    let (base, nat) = text.split_once(':').ok_or("a base has a `:` behind it")?;
-    let base = base.parse::<u128>()?;
+fn powers_of(case: &mut Case<'_>, text: &str) -> Option<(Base, Nat)> {
+    let (base, nat) = case.halves(text, ":");
+    let base = case.parsed(base);
     if base == 0 {
-        return Err(CaseError::Malformed("a base isn't 0"));
+        case.malformed("a base isn't 0");
+        return None;
     }
-    Ok((Base::new(base), nat_of(alloc, nat)?))
+    let nat = nat_of(case, nat)?;
+    Some((Base::new(base), nat))
 }
 
 /// So many of the bounds in front.
-fn taken(alloc: Global, stack: &mut Vec<Bound>, count: &str) -> Result<Vec<Bound>, CaseError> {
-    let mut parts = Vec::new(alloc);
-    for _ in 0..count.parse::<u32>()? {
-        parts.push(stack.pop().ok_or("too few bounds in front")?)?;
+fn taken(case: &mut Case<'_>, stack: &mut Vec<Bound>, count: &str) -> Vec<Bound> {
+    let mut parts = Vec::new(case.alloc());
+    let count: u32 = case.parsed(count);
+    for _ in 0..count {
+        match stack.pop() {
+            Some(part) => case.add(&mut parts, part),
+            None => case.malformed("too few bounds in front"),
+        }
     }
     parts.reverse();
-    Ok(parts)
+    parts
 }
 
-fn bound_of(alloc: Global, stack: &mut Vec<Bound>, word: &str) -> Result<Bound, CaseError> {
-    let (name, rest) = match word.split_once(':') {
-        None => return Ok(Bound::Const(word.parse::<u128>()?)),
-        Some(parts) => parts,
-    };
-    Ok(match name {
-        "nat" => Bound::Nat(nat_of(alloc, rest)?),
-        "sum" => Bound::Sum(taken(alloc, stack, rest)?),
-        "prod" => Bound::Prod(taken(alloc, stack, rest)?),
-        "max" => Bound::Max(taken(alloc, stack, rest)?),
-        "pow" => {
-            let (b, n) = powers_of(alloc, rest)?;
-            Bound::Pow(b, n)
-        }
-        "geo" => {
-            let (b, n) = powers_of(alloc, rest)?;
-            Bound::Geo(b, n)
-        }
-        _ => return Err(CaseError::Malformed("no such bound")),
-    })
-}
-
-fn bound(alloc: Global, text: &str) -> Result<Bound, CaseError> {
-    let mut stack = Vec::new(alloc);
-    for word in words_of(alloc, text)? {
-        let one = bound_of(alloc, &mut stack, word.as_str())?;
-        stack.push(one)?;
+/// The bound of a name that takes what stands behind it.
+fn leaf_of(case: &mut Case<'_>, name: &str, rest: &str) -> Option<Bound> {
+    if name == "nat" {
+        return Some(Bound::Nat(nat_of(case, rest)?));
     }
-    Ok(stack.pop().ok_or("a case has a bound")?)
+    let (base, nat) = powers_of(case, rest)?;
+    match name {
+        "geo" => Some(Bound::Geo(base, nat)),
+        _ => Some(Bound::Pow(base, nat)),
+    }
 }
 
-fn sizes_of(alloc: Global, text: &str) -> Result<Vec<i128>, CaseError> {
-    let mut sizes = Vec::new(alloc);
-    for word in words_of(alloc, text)? {
-        sizes.push(word.parse::<i128>()?)?;
+/// The bound of a word. Where there is none, this is noted.
+fn bound_of(case: &mut Case<'_>, stack: &mut Vec<Bound>, word: &str) -> Bound {
+    let (name, rest) = word.split_once(':').unwrap_or(("", word));
+    match name {
+        "" => Bound::Const(case.parsed(rest)),
+        "max" => Bound::Max(taken(case, stack, rest)),
+        "prod" => Bound::Prod(taken(case, stack, rest)),
+        "sum" => Bound::Sum(taken(case, stack, rest)),
+        _ => leaf_of(case, name, rest).unwrap_or(Bound::Const(0)),
     }
-    Ok(sizes)
+}
+
+/// The last bound of a text.
+fn bound_in(case: &mut Case<'_>, text: &str) -> Option<Bound> {
+    let mut stack = Vec::new(case.alloc());
+    for word in text.split_whitespace() {
+        let bound = bound_of(case, &mut stack, word);
+        case.add(&mut stack, bound);
+    }
+    stack.pop()
+}
+
+fn sizes_of(case: &mut Case<'_>, text: &str) -> Vec<i128> {
+    let mut sizes = Vec::new(case.alloc());
+    for word in text.split_whitespace() {
+        let size = case.parsed(word);
+        case.add(&mut sizes, size);
+    }
+    sizes
+}
+
+fn put_printed(case: &mut Case<'_>, bound: &Bound) {
+    let printed = print(case.alloc(), bound);
+    if let Some(text) = case.made(printed) {
+        case.put(" ");
+        put_text(case, text.as_slice());
+    }
 }
 
 /// The value at the sizes, and the text.
-pub fn answer(alloc: Global, input: &str) -> Result<String, CaseError> {
-    let (text, sizes) = input.split_once(" at").ok_or("a case has an ` at`")?;
-    let bound = bound(alloc, text)?;
-    let sizes = sizes_of(alloc, sizes.trim())?;
-    let printed = text_of(alloc, print(alloc, &bound)?.as_slice())?;
-    Ok(match value(&bound, sizes.as_slice()) {
-        Ok(n) => format!(in alloc; "{n} {printed}")?,
-        Err(_) => format!(in alloc; "too big {printed}")?,
-    })
+fn tell(case: &mut Case<'_>, bound: &Bound, sizes: &[i128]) {
+    match value(bound, sizes) {
+        Ok(n) => case.show(&n),
+        Err(_) => case.put("too big"),
+    }
+    put_printed(case, bound);
+}
+
+pub fn answer(case: &mut Case<'_>) {
+    let text = case.until(" at");
+    let bound = bound_in(case, text);
+    let sizes = case.rest();
+    let sizes = sizes_of(case, sizes);
+    match bound {
+        Some(bound) => tell(case, &bound, &sizes),
+        None => case.malformed("a case has a bound"),
+    }
 }

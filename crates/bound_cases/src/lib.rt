@@ -3,14 +3,13 @@
 
 mod bounds;
 
-use case_texts::CaseError;
-use std::alloc::Global;
+use case_texts::Case;
 
-/// What the subject answers to the input of a case, and nothing where the subject isn't one of these.
-pub fn answer(alloc: Global, subject: &str, input: &str) -> Result<Option<String>, CaseError> {
-    let text = match subject {
-        "bounds" => bounds::answer(alloc, input)?,
-        _ => return Ok(None),
-    };
-    Ok(Some(text))
+/// Answers the case, and tells whether the subject is one of these.
+pub fn answer(subject: &str, case: &mut Case<'_>) -> bool {
+    if subject == "bounds" {
+        bounds::answer(case);
+        return true;
+    }
+    false
 }

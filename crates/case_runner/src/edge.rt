@@ -1,8 +1,8 @@
 //! The shelf of the system's files and the sink over a writer, of which no contract says what they give and take.
 
-use case_texts::texts::text_of;
+use case_texts::Case;
+use case_texts::texts::put_text;
 use ports::{Fetch, FileShelf, OutSink, Shelf, Sink};
-use std::alloc::{AllocError, Global};
 use std::io::Write;
 use std::rt::Files;
 use std::{fs, io};
@@ -31,62 +31,66 @@ impl Write for Narrow {
     }
 }
 
-/// What comes of a report that is put into a sink with room for so many bytes.
-fn put(alloc: Global, room: usize, fails: bool) -> Result<String, AllocError> {
+/// Reports what comes of eight bytes that are put into a sink with room for so many.
+fn put(report: &mut Case<'_>, room: usize, fails: bool) {
     let mut narrow = Narrow {
-        bytes: Vec::new(alloc),
+        bytes: Vec::new(report.alloc()),
         room,
         fails,
     };
     let mut sink = OutSink::new(&mut narrow);
-    let is_put = sink.put(b"bound 4\n").is_ok();
+    let is_put = sink.put(b"bound 42").is_ok();
     let faults = sink.faults();
-    let text = text_of(alloc, narrow.bytes.as_slice())?;
-    format!(in alloc;
-        "room {room}: {is_put}, {faults} faults, '{}'\n",
-        text.as_str().trim_end()
-    )
+    report.put("room ");
+    report.show(&room);
+    report.put(": ");
+    report.show(&is_put);
+    report.put(", ");
+    report.show(&faults);
+    report.put(" faults, '");
+    put_text(report, narrow.bytes.as_slice());
+    report.put("'\n");
 }
 
-/// What a file is fetched as, by the count of its bytes.
-fn fetched<R: Files>(
-    alloc: Global,
-    shelf: &mut FileShelf<R>,
-    path: &str,
-) -> Result<String, AllocError> {
+/// Reports as what a file is fetched, by the count of its bytes.
+fn fetch<R: Files>(report: &mut Case<'_>, shelf: &mut FileShelf<R>, path: &str) {
+    report.put(path);
     match shelf.fetch(path) {
-        Ok(bytes) => format!(in alloc; "{path}: {} bytes\n", bytes.len()),
-        Err(Fetch::Failed) => format!(in alloc; "{path}: failed\n"),
-        Err(Fetch::TooLong) => format!(in alloc; "{path}: too long\n"),
-        Err(Fetch::Memory) => Err(AllocError),
+        Ok(bytes) => {
+            report.put(": ");
+            report.show(&bytes.len());
+            report.put(" bytes\n");
+        }
+        Err(Fetch::Failed) => report.put(": failed\n"),
+        Err(Fetch::TooLong) => report.put(": too long\n"),
+        Err(Fetch::Memory) => report.put(": no memory\n"),
     }
 }
 
 /// Fetches a file that has so many bytes, which is written for that and removed again.
-fn written<R: Files + AllocGlobal>(rt: &R, count: usize) -> anyhow::Result<String> {
-    let alloc = rt.alloc();
-    let bytes: Vec<u8> = vec![in alloc; 0; count]?;
+fn fetch_zeros<R: Files + AllocGlobal>(
+    rt: &R,
+    report: &mut Case<'_>,
+    count: usize,
+) -> anyhow::Result<()> {
+    let bytes: Vec<u8> = vec![in rt.alloc(); 0; count]?;
     fs::write(rt, "zeros", bytes.as_slice())?;
-    let mut shelf = FileShelf::new(alloc, rt);
-    let text = fetched(alloc, &mut shelf, "zeros")?;
+    fetch(report, &mut FileShelf::new(rt.alloc(), rt), "zeros");
     fs::remove_file(rt, "zeros")?;
-    Ok(text)
+    Ok(())
 }
 
-/// What files and writers come to: a file of ten bytes, one that isn't there, a folder, files of as many bytes as may be
-/// and of one more, and writers that take less than is put.
-pub fn report(rt: &(impl Files + AllocGlobal)) -> anyhow::Result<String> {
-    let alloc = rt.alloc();
-    let mut text = String::new(alloc);
-    let mut shelf = FileShelf::new(alloc, rt);
+/// Reports what files and writers come to: a file of ten bytes, one that isn't there, a folder, files of as many bytes
+/// as may be and of one more, and writers that take less than is put.
+pub fn run(rt: &(impl Files + AllocGlobal), report: &mut Case<'_>) -> anyhow::Result<()> {
     for path in ["ten", "none", "."] {
-        text.push_str(fetched(alloc, &mut shelf, path)?.as_str())?;
+        fetch(report, &mut FileShelf::new(rt.alloc(), rt), path);
     }
     for count in [0, 65_537, 16_777_216, 16_777_217] {
-        text.push_str(written(rt, count)?.as_str())?;
+        fetch_zeros(rt, report, count)?;
     }
     for (room, fails) in [(8, false), (8, true), (7, false), (7, true), (0, true)] {
-        text.push_str(put(alloc, room, fails)?.as_str())?;
+        put(report, room, fails);
     }
-    Ok(text)
+    Ok(())
 }

@@ -7,31 +7,30 @@ mod edge;
 mod subjects;
 mod table;
 
-use std::alloc::Global;
+use case_texts::Case;
 use std::rt::{Env, Files};
 use std::{env, fs};
 
-/// The names of the tables, from the command line.
-fn tables_of(rt: &(impl Env + AllocGlobal)) -> anyhow::Result<Vec<String>> {
-    let mut names = Vec::new(rt.alloc());
-    for name in env::args(rt)?.skip(1) {
-        names.push(name)?;
-    }
-    Ok(names)
-}
-
-/// What is to be printed of the table of this name.
-fn report_of(rt: &(impl Files + AllocGlobal), name: &str) -> anyhow::Result<String> {
+/// Reports what the table of this name comes to.
+fn run(rt: &(impl Files + AllocGlobal), report: &mut Case<'_>, name: &str) -> anyhow::Result<()> {
     let path = format!(in rt.alloc(); "{name}.cases")?;
     let text = fs::read_to_string(rt, path.as_str())?;
-    Ok(table::report(rt.alloc(), name, text.as_str())?)
+    table::run(report, name, text.as_str());
+    Ok(())
+}
+
+/// Reports what the tables come to that the command line names.
+fn run_all(rt: &(impl Env + Files + AllocGlobal), report: &mut Case<'_>) -> anyhow::Result<()> {
+    for name in env::args(rt)?.skip(1) {
+        run(rt, report, name.as_str())?;
+    }
+    Ok(())
 }
 
 fn main(rt: HostRuntime) -> anyhow::Result<()> {
-    for name in tables_of(&rt)? {
-        let report = report_of(&rt, name.as_str())?;
-        println!(rt; "{report}")?;
-    }
-    print!(rt; "{}", edge::report(&rt)?)?;
+    let mut report = Case::new(rt.alloc(), "", "");
+    run_all(&rt, &mut report)?;
+    edge::run(&rt, &mut report)?;
+    print!(rt; "{}", report.end()?)?;
     Ok(())
 }

@@ -9,55 +9,43 @@ mod sinks;
 mod targets;
 mod words;
 
-use case_texts::CaseError;
-use std::alloc::Global;
+use case_texts::Case;
 
-/// What a subject of this crate answers to the input of a case, and nothing where the subject isn't one of these.
-fn answer_here(
-    alloc: Global,
-    subject: &str,
-    given: &str,
-    input: &str,
-) -> Result<Option<String>, CaseError> {
-    let text = match subject {
-        "chains" => chains::answer(alloc, given, input)?,
-        "lines" => lines::answer(alloc, given, input)?,
-        "programs" => programs::answer(alloc, given, input)?,
-        "reports" => reports::answer(alloc, given, input)?,
-        "shelves" => shelves::answer(alloc, given, input)?,
-        "sinks" => sinks::answer(alloc, given, input)?,
-        "targets" => targets::answer(alloc, given, input)?,
-        "words" => words::answer(alloc, given, input)?,
-        _ => return Ok(None),
-    };
-    Ok(Some(text))
+/// Answers the case, where the subject is one of these on the outside of the program.
+fn answer_outside(subject: &str, case: &mut Case<'_>) -> bool {
+    match subject {
+        "lines" => lines::answer(case),
+        "shelves" => shelves::answer(case),
+        "sinks" => sinks::answer(case),
+        "targets" => targets::answer(case),
+        "words" => words::answer(case),
+        _ => return false,
+    }
+    true
 }
 
-/// What the subject answers to the input of a case.
-pub fn answer(alloc: Global, subject: &str, given: &str, input: &str) -> Result<String, CaseError> {
-    if let Some(text) = answer_here(alloc, subject, given, input)? {
-        return Ok(text);
+/// Answers the case, where the subject is one of this crate.
+fn answer_here(subject: &str, case: &mut Case<'_>) -> bool {
+    match subject {
+        "chains" => chains::answer(case),
+        "programs" => programs::answer(case),
+        "reports" => reports::answer(case),
+        _ => return answer_outside(subject, case),
     }
-    if let Some(text) = class_cases::answer(alloc, subject, given, input)? {
-        return Ok(text);
+    true
+}
+
+/// Answers the case.
+pub fn answer(subject: &str, case: &mut Case<'_>) {
+    let is_known = answer_here(subject, case)
+        || class_cases::answer(subject, case)
+        || machine_cases::answer(subject, case)
+        || number_cases::answer(subject, case)
+        || relation_cases::answer(subject, case)
+        || bound_cases::answer(subject, case)
+        || graph_cases::answer(subject, case)
+        || flow_cases::answer(subject, case);
+    if !is_known {
+        case.malformed("no such subject");
     }
-    if let Some(text) = machine_cases::answer(alloc, subject, given, input)? {
-        return Ok(text);
-    }
-    if let Some(text) = number_cases::answer(alloc, subject, input)? {
-        return Ok(text);
-    }
-    if let Some(text) = relation_cases::answer(alloc, subject, input)? {
-        return Ok(text);
-    }
-    if let Some(text) = bound_cases::answer(alloc, subject, input)? {
-        return Ok(text);
-    }
-    if let Some(text) = graph_cases::answer(alloc, subject, given, input)? {
-        return Ok(text);
-    }
-    if let Some(text) = flow_cases::answer(alloc, subject, given, input)? {
-        return Ok(text);
-    }
-    Err(CaseError::Malformed("no such subject"))
 }

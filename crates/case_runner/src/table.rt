@@ -2,8 +2,7 @@
 //! a line `cases` nothing is given. Empty lines, and lines that begin with `#`, are passed over.
 
 use crate::subjects;
-use case_texts::CaseError;
-use std::alloc::{AllocError, Global};
+use case_texts::Case;
 
 /// The input and the wanted answer of a line, where it is a case.
 fn case_of(line: &str) -> Option<(&str, &str)> {
@@ -14,15 +13,6 @@ fn case_of(line: &str) -> Option<(&str, &str)> {
     Some((input.trim(), wanted.trim()))
 }
 
-/// The answer to a case, or why there is none.
-fn answer(alloc: Global, subject: &str, given: &str, input: &str) -> Result<String, AllocError> {
-    match subjects::answer(alloc, subject, given, input) {
-        Ok(found) => Ok(found),
-        Err(CaseError::Memory(error)) => Err(error),
-        Err(fault) => format!(in alloc; "{fault}"),
-    }
-}
-
 /// The subject of the table of this name: the last part of a path.
 fn subject_of(name: &str) -> &str {
     match name.rsplit_once('/') {
@@ -31,26 +21,53 @@ fn subject_of(name: &str) -> &str {
     }
 }
 
-/// What the table of this name comes to: a line for each case that differs, and how many there are.
-pub fn report(alloc: Global, name: &str, text: &str) -> Result<String, AllocError> {
+/// Reports that a case differs.
+fn put_difference(report: &mut Case<'_>, input: &str, found: &str, wanted: &str) {
+    report.put(input);
+    report.put(" => ");
+    report.put(found);
+    report.put(", and not ");
+    report.put(wanted);
+    report.put("\n");
+}
+
+/// Whether a case is answered as it is wanted. Where it isn't, this is reported.
+fn is_answered(
+    report: &mut Case<'_>,
+    subject: &str,
+    given: &str,
+    input: &str,
+    wanted: &str,
+) -> bool {
+    let mut case = Case::new(report.alloc(), given, input);
+    subjects::answer(subject, &mut case);
+    let Some(found) = report.made(case.end()) else {
+        return false;
+    };
+    let is_wanted = found.as_str().trim() == wanted;
+    if !is_wanted {
+        put_difference(report, input, found.as_str(), wanted);
+    }
+    is_wanted
+}
+
+/// Reports what the table of this name comes to: a line for each case that differs, and how many there are.
+pub fn run(report: &mut Case<'_>, name: &str, text: &str) {
     let subject = subject_of(name);
     let (given, cases) = text.split_once("\ncases\n").unwrap_or(("", text));
-    let mut report = String::new(alloc);
-    let mut count = 0u64;
-    let mut differing = 0u64;
+    let (mut count, mut differing) = (0u64, 0u64);
     for line in cases.lines() {
-        let Some((input, wanted)) = case_of(line) else {
-            continue;
-        };
-        count = count.wrapping_add(1);
-        let found = answer(alloc, subject, given, input)?;
-        if found.as_str().trim() != wanted {
-            differing = differing.wrapping_add(1);
-            report.push_str(format!(in alloc;
-                "{subject}: {input} => {found}, and not {wanted}\n"
-            )?.as_str())?;
+        if let Some((input, wanted)) = case_of(line) {
+            count = count.wrapping_add(1);
+            if !is_answered(report, subject, given, input, wanted) {
+                differing = differing.wrapping_add(1);
+            }
         }
     }
-    report.push_str(format!(in alloc; "{subject}: {count} cases, {differing} differ")?.as_str())?;
-    Ok(report)
+    report.put(subject);
+    report.put(": ");
+    report.show(&count);
+    report.put(" cases, ");
+    report.show(&differing);
+    report.put(" differ\n");
 }

@@ -8,9 +8,8 @@
 //! of a class, `u=TEXT` of a text, `d=` of a double, and `f=`, `m=` and `n=`, each with `CLASS.NAME:DESCRIPTOR`,
 //! of a field, a method and an interface's method. `s=TEXT` is the index of a string in one byte.
 
-use crate::CaseError;
-use crate::texts::words_of;
-use std::alloc::{AllocError, Global};
+use crate::Case;
+use std::str::SplitWhitespace;
 
 /// A class file that is being made: the entries of its constant pool, the index of the next one, and what stands
 /// behind the pool.
@@ -22,215 +21,233 @@ struct Assembler {
 }
 
 /// A count of two bytes.
-fn length_of(count: usize) -> Result<u16, CaseError> {
-    u16::try_from(count).map_err(|_| CaseError::Malformed("too many"))
+fn length_of(count: usize) -> u16 {
+    u16::try_from(count).unwrap_or(u16::MAX)
+}
+
+/// The next word of a line, or an empty one.
+fn next<'a>(words: &mut SplitWhitespace<'a>) -> &'a str {
+    words.next().unwrap_or("")
+}
+
+fn is_field(line: &str) -> bool {
+    line.starts_with("field ")
 }
 
 impl Assembler {
     /// Adds an entry that begins so, and gives its index.
-    fn entry(&mut self, tag: u8, bytes: &[u8]) -> Result<u16, AllocError> {
+    fn entry(&mut self, case: &mut Case<'_>, tag: u8, bytes: &[u8]) -> u16 {
         let index = self.next;
-        self.pool.push(tag)?;
-        self.pool.extend_from_slice(bytes)?;
+        case.add(&mut self.pool, tag);
+        case.append(&mut self.pool, bytes);
         self.next = index.wrapping_add(1);
-        Ok(index)
+        index
     }
 
-    fn utf8(&mut self, text: &str) -> Result<u16, AllocError> {
-        let length = u16::try_from(text.len()).unwrap_or(0);
-        let index = self.entry(1, &length.to_be_bytes())?;
-        self.pool.extend_from_slice(text.as_bytes())?;
-        Ok(index)
+    fn utf8(&mut self, case: &mut Case<'_>, text: &str) -> u16 {
+        let index = self.entry(case, 1, &length_of(text.len()).to_be_bytes());
+        case.append(&mut self.pool, text.as_bytes());
+        index
     }
 
     /// An entry that names a text: a class (JVMS 4.4.1) or a string (JVMS 4.4.3).
-    fn naming(&mut self, tag: u8, text: &str) -> Result<u16, AllocError> {
-        let text = self.utf8(text)?;
-        self.entry(tag, &text.to_be_bytes())
+    fn naming(&mut self, case: &mut Case<'_>, tag: u8, text: &str) -> u16 {
+        let text = self.utf8(case, text);
+        self.entry(case, tag, &text.to_be_bytes())
     }
 
-    fn pair(&mut self, tag: u8, first: u16, second: u16) -> Result<u16, AllocError> {
+    fn pair(&mut self, case: &mut Case<'_>, tag: u8, first: u16, second: u16) -> u16 {
         let [a, b] = first.to_be_bytes();
         let [c, d] = second.to_be_bytes();
-        self.entry(tag, &[a, b, c, d])
+        self.entry(case, tag, &[a, b, c, d])
     }
 
     /// A double takes two indices (JVMS 4.4.5).
-    fn double(&mut self) -> Result<u16, AllocError> {
-        let index = self.entry(6, &[0; 8])?;
+    fn double(&mut self, case: &mut Case<'_>) -> u16 {
+        let index = self.entry(case, 6, &[0; 8]);
         self.next = self.next.wrapping_add(1);
-        Ok(index)
+        index
+    }
+
+    /// A name and a descriptor (JVMS 4.4.6).
+    fn member(&mut self, case: &mut Case<'_>, text: &str) -> u16 {
+        let (name, desc) = case.halves(text, ":");
+        let name = self.utf8(case, name);
+        let desc = self.utf8(case, desc);
+        self.pair(case, 12, name, desc)
     }
 
     /// A reference to a member (JVMS 4.4.2).
-    fn member(&mut self, tag: u8, text: &str) -> Result<u16, CaseError> {
-        let (class, member) = text.split_once('.').ok_or("a member has a `.`")?;
-        let (name, desc) = member.split_once(':').ok_or("a member has a `:`")?;
-        let class = self.naming(7, class)?;
-        let name = self.utf8(name)?;
-        let desc = self.utf8(desc)?;
-        let named = self.pair(12, name, desc)?;
-        Ok(self.pair(tag, class, named)?)
+    fn reference(&mut self, case: &mut Case<'_>, tag: u8, text: &str) -> u16 {
+        let (class, member) = case.halves(text, ".");
+        let class = self.naming(case, 7, class);
+        let named = self.member(case, member);
+        self.pair(case, tag, class, named)
     }
 
     /// The index that a word of this letter is.
-    fn index(&mut self, letter: &str, text: &str) -> Result<u16, CaseError> {
-        match letter.as_bytes() {
-            b"c" => Ok(self.naming(7, text)?),
-            b"d" => Ok(self.double()?),
-            b"f" => self.member(9, text),
-            b"m" => self.member(10, text),
-            b"n" => self.member(11, text),
-            b"s" => Ok(self.naming(8, text)?),
-            _ => Ok(self.utf8(text)?),
+    fn index(&mut self, case: &mut Case<'_>, letter: u8, text: &str) -> u16 {
+        match letter {
+            b'c' => self.naming(case, 7, text),
+            b'd' => self.double(case),
+            b'f' => self.reference(case, 9, text),
+            b'm' => self.reference(case, 10, text),
+            b'n' => self.reference(case, 11, text),
+            b's' => self.naming(case, 8, text),
+            _ => self.utf8(case, text),
         }
     }
 
-    fn put_word(&mut self, code: &mut Vec<u8>, word: &str) -> Result<(), CaseError> {
-        if let Some((letter, text)) = word.split_once('=') {
-            let [high, low] = self.index(letter, text)?.to_be_bytes();
-            if letter != "s" {
-                code.push(high)?;
+    /// Adds the index that a word is: of a string in its lower byte alone.
+    fn put_index(&mut self, case: &mut Case<'_>, code: &mut Vec<u8>, letter: &str, text: &str) {
+        let letter = letter.as_bytes().first().copied().unwrap_or(0);
+        let index = self.index(case, letter, text).to_be_bytes();
+        let from = if letter == b's' { 1 } else { 0 };
+        case.append(code, &index[from..]);
+    }
+
+    fn put_word(&mut self, case: &mut Case<'_>, code: &mut Vec<u8>, word: &str) {
+        match word.split_once('=') {
+            Some((letter, text)) => self.put_index(case, code, letter, text),
+            None => {
+                let [_, byte] = case.flags(word).to_be_bytes();
+                case.add(code, byte);
             }
-            code.push(low)?;
-        } else {
-            code.push(u8::from_str_radix(word, 16)?)?;
         }
-        Ok(())
     }
 
     /// Puts numbers of two bytes behind the pool.
-    fn put(&mut self, numbers: &[u16]) -> Result<(), AllocError> {
+    fn put(&mut self, case: &mut Case<'_>, numbers: &[u16]) {
         for number in numbers {
-            self.body.extend_from_slice(&number.to_be_bytes())?;
+            case.append(&mut self.body, &number.to_be_bytes());
         }
-        Ok(())
     }
 
-    /// An attribute Code with max_stack 4 (JVMS 4.7.3). A handler covers the first byte.
-    fn put_code(
-        &mut self,
-        mut code: Vec<u8>,
-        max_locals: u16,
-        has_handler: bool,
-    ) -> Result<(), CaseError> {
-        let attribute = self.utf8("Code")?;
-        let length = length_of(code.len())?;
-        let handlers = u16::from(has_handler);
-        let whole = length
-            .wrapping_add(12)
-            .wrapping_add(handlers.wrapping_mul(8));
-        self.put(&[1, attribute, 0, whole, 4, max_locals, 0, length])?;
-        self.body.append(&mut code)?;
-        self.put(&[handlers])?;
+    /// The head of an attribute Code with max_stack 4 (JVMS 4.7.3), and its bytes.
+    fn put_bytes(&mut self, case: &mut Case<'_>, code: &[u8], max_locals: u16, more: u16) {
+        let attribute = self.utf8(case, "Code");
+        let length = length_of(code.len());
+        let whole = length.wrapping_add(12).wrapping_add(more);
+        self.put(case, &[1, attribute, 0, whole, 4, max_locals, 0, length]);
+        case.append(&mut self.body, code);
+    }
+
+    /// An attribute Code. A handler covers the first byte.
+    fn put_code(&mut self, case: &mut Case<'_>, code: &[u8], max_locals: u16, has_handler: bool) {
         if has_handler {
-            self.put(&[0, 1, 0, 0])?;
+            self.put_bytes(case, code, max_locals, 8);
+            self.put(case, &[1, 0, 1, 0, 0, 0]);
+        } else {
+            self.put_bytes(case, code, max_locals, 0);
+            self.put(case, &[0, 0]);
         }
-        self.put(&[0])?;
-        Ok(())
     }
 
-    fn put_method(&mut self, alloc: Global, line: &str) -> Result<(), CaseError> {
-        let words = words_of(alloc, line)?;
-        let [flags, name, desc, words @ ..] = words.as_slice() else {
-            return Err(CaseError::Malformed("a method has a descriptor"));
-        };
-        let bare = flags.as_str().trim_end_matches('!');
-        let (own, max_locals) = bare.split_once('/').unwrap_or((bare, "6"));
-        let numbers = [
-            u16::from_str_radix(own, 16)?,
-            self.utf8(name.as_str())?,
-            self.utf8(desc.as_str())?,
-        ];
-        self.put(&numbers)?;
-        if let [word] = words
-            && word.as_str() == "-"
-        {
-            return Ok(self.put(&[0])?);
-        }
-        let mut code = Vec::new(alloc);
+    /// The bytes that the words of code are.
+    fn code_of(&mut self, case: &mut Case<'_>, words: SplitWhitespace<'_>) -> Vec<u8> {
+        let mut code = Vec::new(case.alloc());
         for word in words {
-            self.put_word(&mut code, word.as_str())?;
+            self.put_word(case, &mut code, word);
         }
-        let max_locals = u16::from_str_radix(max_locals, 10)?;
-        self.put_code(code, max_locals, flags.len() != bare.len())
+        code
     }
 
-    fn put_methods(&mut self, alloc: Global, members: &str) -> Result<(), CaseError> {
-        let is_method = |line: &&str| !line.starts_with("field ");
-        let count = members.lines().filter(is_method).count();
-        self.put(&[length_of(count)?])?;
+    /// The flags, the name and the descriptor of a member (JVMS 4.5, 4.6).
+    fn put_member(&mut self, case: &mut Case<'_>, flags: &str, words: &mut SplitWhitespace<'_>) {
+        let flags = case.flags(flags);
+        let name = self.utf8(case, next(words));
+        let desc = self.utf8(case, next(words));
+        self.put(case, &[flags, name, desc]);
+    }
+
+    fn put_method(&mut self, case: &mut Case<'_>, line: &str) {
+        let mut words = line.split_whitespace();
+        let flags = next(&mut words);
+        let bare = flags.trim_end_matches('!');
+        let (own, max_locals) = bare.split_once('/').unwrap_or((bare, "6"));
+        self.put_member(case, own, &mut words);
+        if line.ends_with(" -") {
+            self.put(case, &[0]);
+            return;
+        }
+        let code = self.code_of(case, words);
+        let max_locals = case.parsed(max_locals);
+        self.put_code(case, &code, max_locals, flags.len() != bare.len());
+    }
+
+    fn put_methods(&mut self, case: &mut Case<'_>, members: &str) {
         for line in members.lines() {
-            if !line.starts_with("field ") {
-                self.put_method(alloc, line)?;
+            if !is_field(line) {
+                self.put_method(case, line);
             }
         }
-        Ok(())
     }
 
-    /// A field without attributes (JVMS 4.5).
-    fn put_field(&mut self, alloc: Global, line: &str) -> Result<(), CaseError> {
-        let words = words_of(alloc, line)?;
-        let [_, flags, name, desc] = words.as_slice() else {
-            return Err(CaseError::Malformed("a field has a descriptor"));
-        };
-        let numbers = [
-            u16::from_str_radix(flags.as_str(), 16)?,
-            self.utf8(name.as_str())?,
-            self.utf8(desc.as_str())?,
-            0,
-        ];
-        Ok(self.put(&numbers)?)
-    }
-
-    fn put_fields(&mut self, alloc: Global, members: &str) -> Result<(), CaseError> {
-        let is_field = |line: &&str| line.starts_with("field ");
-        let count = members.lines().filter(is_field).count();
-        self.put(&[length_of(count)?])?;
+    /// Fields without attributes (JVMS 4.5).
+    fn put_fields(&mut self, case: &mut Case<'_>, members: &str) {
         for line in members.lines() {
-            if line.starts_with("field ") {
-                self.put_field(alloc, line)?;
+            if let Some(line) = line.strip_prefix("field ") {
+                let mut words = line.split_whitespace();
+                let flags = next(&mut words);
+                self.put_member(case, flags, &mut words);
+                self.put(case, &[0]);
             }
         }
-        Ok(())
     }
 
     /// The flags, this class, its superclass and its interfaces.
-    fn put_head(&mut self, alloc: Global, line: &str) -> Result<(), CaseError> {
-        let words = words_of(alloc, line)?;
-        let [_, name, superclass, flags, interfaces @ ..] = words.as_slice() else {
-            return Err(CaseError::Malformed("a class has flags"));
-        };
-        let numbers = [
-            u16::from_str_radix(flags.as_str(), 16)?,
-            self.naming(7, name.as_str())?,
-            self.naming(7, superclass.as_str())?,
-            length_of(interfaces.len())?,
-        ];
-        self.put(&numbers)?;
-        for interface in interfaces {
-            let index = self.naming(7, interface.as_str())?;
-            self.put(&[index])?;
+    fn put_head(&mut self, case: &mut Case<'_>, line: &str) {
+        let mut words = line.split_whitespace();
+        next(&mut words);
+        let name = self.naming(case, 7, next(&mut words));
+        let superclass = self.naming(case, 7, next(&mut words));
+        let flags = case.flags(next(&mut words));
+        let interfaces = line.split_whitespace().count().saturating_sub(4);
+        self.put(case, &[flags, name, superclass, length_of(interfaces)]);
+        for interface in words {
+            let index = self.naming(case, 7, interface);
+            self.put(case, &[index]);
         }
-        Ok(())
+    }
+
+    /// The bytes of the file.
+    fn file(&self, case: &mut Case<'_>) -> Vec<u8> {
+        let mut file = Vec::new(case.alloc());
+        case.append(&mut file, b"\xca\xfe\xba\xbe\0\0\0\x34");
+        case.append(&mut file, &self.next.to_be_bytes());
+        case.append(&mut file, &self.pool);
+        case.append(&mut file, &self.body);
+        file
     }
 }
 
+/// How many lines are of fields, and how many are not.
+fn counts_of(members: &str) -> (u16, u16) {
+    let (mut fields, mut methods) = (0u16, 0u16);
+    for line in members.lines() {
+        if is_field(line) {
+            fields = fields.wrapping_add(1);
+        } else {
+            methods = methods.wrapping_add(1);
+        }
+    }
+    (fields, methods)
+}
+
 /// The class file of the class of this text.
-pub fn assembled(alloc: Global, text: &str) -> Result<Vec<u8>, CaseError> {
+pub fn assembled(case: &mut Case<'_>, text: &str) -> Vec<u8> {
     let mut class = Assembler {
-        pool: Vec::new(alloc),
+        pool: Vec::new(case.alloc()),
         next: 1,
-        body: Vec::new(alloc),
+        body: Vec::new(case.alloc()),
     };
     let (head, members) = text.split_once('\n').unwrap_or((text, ""));
-    class.put_head(alloc, head)?;
-    class.put_fields(alloc, members)?;
-    class.put_methods(alloc, members)?;
-    class.put(&[0])?;
-    let mut file = Vec::from_slice(alloc, b"\xca\xfe\xba\xbe\0\0\0\x34")?;
-    file.extend_from_slice(&class.next.to_be_bytes())?;
-    file.append(&mut class.pool)?;
-    file.append(&mut class.body)?;
-    Ok(file)
+    let (fields, methods) = counts_of(members);
+    class.put_head(case, head);
+    class.put(case, &[fields]);
+    class.put_fields(case, members);
+    class.put(case, &[methods]);
+    class.put_methods(case, members);
+    class.put(case, &[0]);
+    class.file(case)
 }

@@ -1,8 +1,8 @@
-//! What cases are written in: bytes and words in text, and an assembler of class files.
+//! What cases are written in: their words and answers, bytes in text, and an assembler of class files.
 #![tactic(auto)]
 
 pub mod assembler;
-mod fault;
+mod case;
 pub mod texts;
 
-pub use fault::CaseError;
+pub use case::Case;

@@ -1,54 +1,72 @@
-//! Bytes, words and numbers in the texts of cases.
+//! Bytes and words in the texts of cases.
 
-use crate::CaseError;
-use std::alloc::{AllocError, Global};
+use crate::Case;
+
+/// Adds the bytes' next digit, whose first half is given or not, and gives the first half of the byte behind it.
+fn add_digit(
+    case: &mut Case<'_>,
+    bytes: &mut Vec<u8>,
+    high: Option<u8>,
+    digit: char,
+) -> Option<u8> {
+    let Some(value) = digit.to_digit(16) else {
+        case.malformed("a digit is none");
+        return None;
+    };
+    let value = value as u8;
+    let Some(high) = high else {
+        return Some(value);
+    };
+    case.add(bytes, high.wrapping_mul(16) | value);
+    None
+}
 
 /// The bytes that pairs of hexadecimal digits are, parted by spaces or not.
-pub fn bytes_of(alloc: Global, digits: &str) -> Result<Vec<u8>, CaseError> {
-    let mut bytes = Vec::new(alloc);
+pub fn bytes_of(case: &mut Case<'_>, digits: &str) -> Vec<u8> {
+    let mut bytes = Vec::new(case.alloc());
     let mut high = None;
     for digit in digits.chars() {
-        if digit == ' ' {
-            continue;
+        if digit != ' ' {
+            high = add_digit(case, &mut bytes, high, digit);
         }
-        let value = digit.to_digit(16).ok_or("a digit is none")? as u8;
-        high = match high {
-            None => Some(value),
-            Some(first) => {
-                bytes.push(first.wrapping_mul(16) | value)?;
-                None
-            }
-        };
     }
     if high.is_some() {
-        return Err(CaseError::Malformed("a byte has one digit"));
+        case.malformed("a byte has one digit");
     }
-    Ok(bytes)
+    bytes
 }
 
-/// Adds the word, so many times as a number and a `*` before it say, and `''` as the empty word.
-fn push_word(alloc: Global, words: &mut Vec<String>, word: &str) -> Result<(), CaseError> {
-    let (count, word) = match word.split_once('*') {
-        Some((count, word)) => (count.parse::<u32>()?, word),
-        None => (1, word),
-    };
+/// Adds a word.
+pub fn push_word(case: &mut Case<'_>, words: &mut Vec<String>, word: &str) {
+    let made = String::from_str(case.alloc(), word);
+    if let Some(word) = case.made(made) {
+        case.add(words, word);
+    }
+}
+
+/// How often a word stands for itself, and the word: `N*WORD` stands for N words, and `''` for an empty one.
+pub fn counted<'a>(case: &mut Case<'_>, word: &'a str) -> (u32, &'a str) {
+    let (count, word) = word.split_once('*').unwrap_or(("1", word));
     let word = if word == "''" { "" } else { word };
-    for _ in 0..count {
-        words.push(String::from_str(alloc, word)?)?;
-    }
-    Ok(())
+    (case.parsed(count), word)
 }
 
-/// The words of a line, parted by spaces. `''` is the empty word, and `N*WORD` stands for N words.
-pub fn words_of(alloc: Global, line: &str) -> Result<Vec<String>, CaseError> {
-    let mut words = Vec::new(alloc);
+/// The words of a line, parted by spaces.
+pub fn words_of(case: &mut Case<'_>, line: &str) -> Vec<String> {
+    let mut words = Vec::new(case.alloc());
     for word in line.split_whitespace() {
-        push_word(alloc, &mut words, word)?;
+        let (count, word) = counted(case, word);
+        for _ in 0..count {
+            push_word(case, &mut words, word);
+        }
     }
-    Ok(words)
+    words
 }
 
-/// The bytes as a text, with U+FFFD for what is none.
-pub fn text_of(alloc: Global, bytes: &[u8]) -> Result<String, AllocError> {
-    String::from_utf8_lossy(alloc, bytes)
+/// Adds bytes to the answer as a text, with U+FFFD for what is none.
+pub fn put_text(case: &mut Case<'_>, bytes: &[u8]) {
+    let text = String::from_utf8_lossy(case.alloc(), bytes);
+    if let Some(text) = case.made(text) {
+        case.put(text.as_str());
+    }
 }

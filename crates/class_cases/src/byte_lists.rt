@@ -1,27 +1,27 @@
 //! Lists of bytes, which a case has in hexadecimal digits: how many there are, whether there are none, and the bytes of the
 //! list that they are pushed into and of the one that is made of them.
 
-use case_texts::CaseError;
-use case_texts::texts::bytes_of;
+use crate::instructions::code_of;
+use case_texts::Case;
 use class_pool::Bytes;
-use std::alloc::{AllocError, Global};
 
-fn pushed(alloc: Global, bytes: &[u8]) -> Result<Bytes, AllocError> {
-    let mut list = Bytes::new(alloc);
+fn pushed(case: &mut Case<'_>, bytes: &[u8]) -> Bytes {
+    let mut list = Bytes::new(case.alloc());
     for byte in bytes {
-        list.push(*byte)?;
+        let added = list.push(*byte);
+        case.keep(added);
     }
-    Ok(list)
+    list
 }
 
-pub fn answer(alloc: Global, _given: &str, input: &str) -> Result<String, CaseError> {
-    let bytes = bytes_of(alloc, input)?;
-    let list = pushed(alloc, bytes.as_slice())?;
+pub fn answer(case: &mut Case<'_>) {
+    let bytes = code_of(case);
+    let list = pushed(case, bytes.as_slice());
     let made = Bytes::from(bytes);
-    let (count, is_empty) = (list.len(), list.is_empty());
-    Ok(format!(in alloc;
-        "{count} {is_empty} {:?} {:?}",
-        list.as_slice(),
-        made.as_slice()
-    )?)
+    case.show(&list.len());
+    case.show_word(&list.is_empty());
+    case.put(" ");
+    case.show_debug(&list.as_slice());
+    case.put(" ");
+    case.show_debug(&made.as_slice());
 }

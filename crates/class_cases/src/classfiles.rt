@@ -5,12 +5,11 @@
 use crate::edits::{edited_file, name_with};
 use crate::pools::name_of;
 use crate::summaries::Summary;
-use case_texts::CaseError;
+use case_texts::Case;
 use class_pool::PoolFault;
-use class_reader::{Class, ClassFault, ClassRecord, Code, Handler, Method, read};
+use class_reader::{Class, ClassFault, ClassRecord, Code, Field, Handler, Method, read};
 use class_writer::write;
-use std::alloc::{AllocError, Global};
-use std::fmt::Write;
+use std::alloc::Global;
 
 /// How many bytes a table's file has at most.
 const MOST: usize = 65535;
@@ -23,10 +22,10 @@ fn class_in(alloc: Global, bytes: &[u8]) -> Result<Class, ClassFault> {
     read(alloc, bytes)
 }
 
-fn read_shown(alloc: Global, bytes: &[u8]) -> Result<String, AllocError> {
-    match class_in(alloc, bytes) {
-        Ok(_) => format!(in alloc; "read"),
-        Err(fault) => format!(in alloc; "{fault:?}"),
+fn put_read(case: &mut Case<'_>, bytes: &[u8]) {
+    match class_in(case.alloc(), bytes) {
+        Ok(_) => case.put("read"),
+        Err(fault) => case.show_debug(&fault),
     }
 }
 
@@ -41,144 +40,144 @@ fn is_short(fault: &ClassFault, end: usize) -> bool {
 }
 
 /// What becomes of the first bytes: `short` where they end too early, and are said to end where they do.
-fn front_shown(alloc: Global, front: &[u8]) -> Result<String, AllocError> {
-    match class_in(alloc, front) {
-        Ok(_) => format!(in alloc; "read"),
-        Err(fault) if is_short(&fault, front.len()) => format!(in alloc; "short"),
-        Err(fault) => format!(in alloc; "{fault:?}"),
+fn put_front(case: &mut Case<'_>, front: &[u8]) {
+    match class_in(case.alloc(), front) {
+        Ok(_) => case.put("read"),
+        Err(fault) if is_short(&fault, front.len()) => case.put("short"),
+        Err(fault) => case.show_debug(&fault),
     }
 }
 
 /// What becomes of the first bytes, from which number of them on.
-fn fronts_shown(alloc: Global, bytes: &[u8]) -> Result<String, AllocError> {
-    let mut summary = Summary::new(alloc);
-    for count in 0..bytes.len() {
-        summary.push(count, front_shown(alloc, &bytes[..count])?)?;
+fn put_fronts(case: &mut Case<'_>, bytes: &[u8]) {
+    let mut summary = Summary::new(case.alloc());
+    for count in 0..=bytes.len() {
+        let mut front = Case::new(case.alloc(), "", "");
+        put_front(&mut front, bytes.get(..count).unwrap_or(bytes));
+        summary.add(case, count, front);
     }
-    summary.push(bytes.len(), front_shown(alloc, bytes)?)?;
-    Ok(summary.into_text())
 }
 
 /// The version, the flags, and the names of the class, its superclass and its interfaces.
-fn class_shown(alloc: Global, class: &ClassRecord) -> Result<String, AllocError> {
-    let name = name_of(&class.name);
-    let superclass = class.super_name.as_ref().map_or("none", name_of);
-    let mut out = format!(in alloc; "{} {:04x} {name} {superclass}", class.major, class.flags)?;
+fn put_class(case: &mut Case<'_>, class: &ClassRecord) {
+    case.show(&class.major);
+    case.put(" ");
+    case.show_bytes(&class.flags.to_be_bytes());
+    case.put_word(name_of(&class.name));
+    match class.super_name.as_ref() {
+        Some(name) => case.put_word(name_of(name)),
+        None => case.put_word("none"),
+    }
     for interface in class.interfaces.as_slice() {
-        write!(out, " {}", name_of(interface))?;
+        case.put_word(name_of(interface));
     }
-    Ok(out)
 }
 
-fn fields_shown(alloc: Global, class: &ClassRecord) -> Result<String, AllocError> {
-    let mut out = format!(in alloc; "{} fields", class.fields.len())?;
+fn put_field(case: &mut Case<'_>, field: &Field) {
+    case.put(", ");
+    case.show_bytes(&field.flags.to_be_bytes());
+    case.put_word(name_of(&field.name));
+    case.put_word(name_of(&field.desc));
+}
+
+fn put_fields(case: &mut Case<'_>, class: &ClassRecord) {
+    case.show(&class.fields.len());
+    case.put(" fields");
     for field in class.fields.as_slice() {
-        let (name, desc) = (name_of(&field.name), name_of(&field.desc));
-        write!(out, ", {:04x} {name} {desc}", field.flags)?;
+        put_field(case, field);
     }
-    Ok(out)
 }
 
-fn show_handler(out: &mut String, handler: &Handler) -> Result<(), AllocError> {
-    let catch = handler.catch.as_ref().map_or("any", name_of);
-    let (start, end) = (handler.start, handler.end);
-    write!(
-        out,
-        ", from {start} before {end} to {} {catch}",
-        handler.handler
-    )
+fn put_handler(case: &mut Case<'_>, handler: &Handler) {
+    case.put(", from ");
+    case.show(&handler.start);
+    case.put(" before ");
+    case.show(&handler.end);
+    case.put(" to ");
+    case.show(&handler.handler);
+    match handler.catch.as_ref() {
+        Some(name) => case.put_word(name_of(name)),
+        None => case.put_word("any"),
+    }
 }
 
-fn show_code(out: &mut String, code: &Code) -> Result<(), AllocError> {
-    write!(
-        out,
-        ", stack {} locals {} code ",
-        code.max_stack, code.max_locals
-    )?;
-    for byte in code.bytes.as_slice() {
-        write!(out, "{byte:02x}")?;
-    }
+fn put_code(case: &mut Case<'_>, code: &Code) {
+    case.put(", stack ");
+    case.show(&code.max_stack);
+    case.put(" locals ");
+    case.show(&code.max_locals);
+    case.put(" code ");
+    case.show_bytes(code.bytes.as_slice());
     for handler in code.handlers.as_slice() {
-        show_handler(out, handler)?;
+        put_handler(case, handler);
     }
-    Ok(())
 }
 
-fn method_shown(alloc: Global, method: Option<&Method>) -> Result<String, AllocError> {
-    let Some(method) = method else {
-        return format!(in alloc; "none");
-    };
-    let (name, desc) = (name_of(&method.name), name_of(&method.desc));
-    let mut out = format!(in alloc; "{:04x} {name} {desc}", method.flags)?;
+fn put_method(case: &mut Case<'_>, method: &Method) {
+    case.show_bytes(&method.flags.to_be_bytes());
+    case.put_word(name_of(&method.name));
+    case.put_word(name_of(&method.desc));
     if let Some(code) = method.code.as_ref() {
-        show_code(&mut out, code)?;
+        put_code(case, code);
     }
-    Ok(out)
 }
 
-fn long_shown(alloc: Global, class: &ClassRecord, index: u16) -> Result<String, AllocError> {
+/// The method with this number, where there is one.
+fn put_method_at(case: &mut Case<'_>, class: &ClassRecord, number: usize) {
+    match class.methods.as_slice().get(number) {
+        Some(method) => put_method(case, method),
+        None => case.put("none"),
+    }
+}
+
+fn put_long(case: &mut Case<'_>, class: &ClassRecord, index: u16) {
     match class.pool.long(index) {
-        Some(long) => format!(in alloc; "{long}"),
-        None => format!(in alloc; "none"),
+        Some(long) => case.show(&long),
+        None => case.put("none"),
     }
 }
 
 /// The name of the file that is written of the class.
-fn written(alloc: Global, given: &str, class: &Class) -> Result<String, CaseError> {
-    match write(alloc, class) {
+fn put_written(case: &mut Case<'_>, class: &Class) {
+    match write(case.alloc(), class) {
         Ok(bytes) => {
-            let name = name_with(alloc, given, bytes.as_slice())?;
-            Ok(String::from_str(alloc, name)?)
+            let name = name_with(case, bytes.as_slice());
+            case.put(name);
         }
-        Err(fault) => Ok(format!(in alloc; "{fault:?}")?),
+        Err(fault) => case.show_debug(&fault),
     }
 }
 
-/// What a word without a number asks of a class that is read.
-fn part_shown(alloc: Global, given: &str, verb: &str, class: &Class) -> Result<String, CaseError> {
+/// What a word asks of a class that is read, with its number.
+fn put_part(case: &mut Case<'_>, verb: &str, number: u16, class: &Class) {
     match verb {
-        "class" => Ok(class_shown(alloc, class.record())?),
-        "fields" => Ok(fields_shown(alloc, class.record())?),
-        "written" => written(alloc, given, class),
-        _ => Err(CaseError::Malformed("no such question")),
+        "class" => put_class(case, class.record()),
+        "fields" => put_fields(case, class.record()),
+        "long" => put_long(case, class.record(), number),
+        "method" => put_method_at(case, class.record(), usize::from(number)),
+        _ => put_written(case, class),
     }
 }
 
-/// What a word with a number asks of a class that is read.
-fn item_shown(
-    alloc: Global,
-    verb: &str,
-    number: u16,
-    class: &ClassRecord,
-) -> Result<String, CaseError> {
+/// What a word asks of a file, with its number.
+fn tell(case: &mut Case<'_>, verb: &str, number: u16, bytes: &[u8]) {
     match verb {
-        "method" => {
-            let method = class.methods.as_slice().get(usize::from(number));
-            Ok(method_shown(alloc, method)?)
-        }
-        _ => Ok(long_shown(alloc, class, number)?),
+        "read" => put_read(case, bytes),
+        "fronts" => put_fronts(case, bytes),
+        _ => match class_in(case.alloc(), bytes) {
+            Ok(class) => put_part(case, verb, number, &class),
+            Err(_) => case.malformed("no class"),
+        },
     }
 }
 
-fn known(alloc: Global, bytes: &[u8]) -> Result<Class, CaseError> {
-    match class_in(alloc, bytes) {
-        Ok(class) => Ok(class),
-        Err(_) => Err(CaseError::Malformed("no class")),
-    }
-}
-
-pub fn answer(alloc: Global, given: &str, input: &str) -> Result<String, CaseError> {
-    let (verb, rest) = input.split_once(' ').ok_or("a case has a file")?;
-    if matches!(verb, "method" | "long") {
-        let (number, file) = rest.split_once(' ').ok_or("a case has a file")?;
-        let bytes = edited_file(alloc, given, file)?;
-        let class = known(alloc, bytes.as_slice())?;
-        return item_shown(alloc, verb, number.parse()?, class.record());
-    }
-    let bytes = edited_file(alloc, given, rest)?;
-    match verb {
-        "read" => Ok(read_shown(alloc, bytes.as_slice())?),
-        "fronts" => Ok(fronts_shown(alloc, bytes.as_slice())?),
-        _ => part_shown(alloc, given, verb, &known(alloc, bytes.as_slice())?),
-    }
+pub fn answer(case: &mut Case<'_>) {
+    let verb = case.word();
+    let number = if matches!(verb, "method" | "long") {
+        case.number()
+    } else {
+        0
+    };
+    let bytes = edited_file(case);
+    tell(case, verb, number, bytes.as_slice());
 }

@@ -1,8 +1,7 @@
 //! The words that name constructs in texts.
 
-use case_texts::CaseError;
+use case_texts::Case;
 use op_table::Construct;
-use std::alloc::Global;
 
 /// Each construct.
 const CONSTRUCTS: [Construct; 22] = [
@@ -30,12 +29,21 @@ const CONSTRUCTS: [Construct; 22] = [
     Construct::Later,
 ];
 
-pub fn answer(alloc: Global, _given: &str, input: &str) -> Result<String, CaseError> {
+/// Whether the construct is written so in code.
+fn is_written(case: &mut Case<'_>, construct: Construct, word: &str) -> bool {
+    let mut name = Case::new(case.alloc(), "", "");
+    name.show_debug(&construct);
+    match name.end() {
+        Ok(name) => name.as_str() == word,
+        Err(_) => false,
+    }
+}
+
+pub fn answer(case: &mut Case<'_>) {
+    let word = case.rest();
     for construct in CONSTRUCTS {
-        let name = format!(in alloc; "{construct:?}")?;
-        if name.as_str() == input {
-            return Ok(String::from_str(alloc, construct.word())?);
+        if is_written(case, construct, word) {
+            case.put(construct.word());
         }
     }
-    Err(CaseError::Malformed("no such construct"))
 }

@@ -18,32 +18,42 @@ mod summaries;
 mod switches;
 mod utf8;
 
-use case_texts::CaseError;
-use std::alloc::Global;
+use case_texts::Case;
 
-/// What the subject answers to the input of a case, and nothing where the subject isn't one of these.
-pub fn answer(
-    alloc: Global,
-    subject: &str,
-    given: &str,
-    input: &str,
-) -> Result<Option<String>, CaseError> {
-    let text = match subject {
-        "actions" => actions::answer(alloc, given, input)?,
-        "byte_lists" => byte_lists::answer(alloc, given, input)?,
-        "classfiles" => classfiles::answer(alloc, given, input)?,
-        "constructs" => constructs::answer(alloc, given, input)?,
-        "cursors" => cursors::answer(alloc, given, input)?,
-        "descriptors" => descriptor_texts::answer(alloc, given, input)?,
-        "instructions" => instructions::answer(alloc, given, input)?,
-        "method_flags" => method_flags::answer(alloc, given, input)?,
-        "opcodes" => opcodes::answer(alloc, given, input)?,
-        "opcosts" => opcosts::answer(alloc, given, input)?,
-        "pools" => pools::answer(alloc, given, input)?,
-        "shared_names" => shared_names::answer(alloc, given, input)?,
-        "switches" => switches::answer(alloc, given, input)?,
-        "utf8" => utf8::answer(alloc, given, input)?,
-        _ => return Ok(None),
-    };
-    Ok(Some(text))
+/// Answers the case, where the subject is one of these on instructions.
+fn answer_code(subject: &str, case: &mut Case<'_>) -> bool {
+    match subject {
+        "actions" => actions::answer(case),
+        "constructs" => constructs::answer(case),
+        "instructions" => instructions::answer(case),
+        "opcodes" => opcodes::answer(case),
+        "opcosts" => opcosts::answer(case),
+        "switches" => switches::answer(case),
+        _ => return false,
+    }
+    true
+}
+
+/// Answers the case, where the subject is one of these on bytes and texts.
+fn answer_bytes(subject: &str, case: &mut Case<'_>) -> bool {
+    match subject {
+        "byte_lists" => byte_lists::answer(case),
+        "cursors" => cursors::answer(case),
+        "descriptors" => descriptor_texts::answer(case),
+        "shared_names" => shared_names::answer(case),
+        "utf8" => utf8::answer(case),
+        _ => return answer_code(subject, case),
+    }
+    true
+}
+
+/// Answers the case, and tells whether the subject is one of these.
+pub fn answer(subject: &str, case: &mut Case<'_>) -> bool {
+    match subject {
+        "classfiles" => classfiles::answer(case),
+        "method_flags" => method_flags::answer(case),
+        "pools" => pools::answer(case),
+        _ => return answer_bytes(subject, case),
+    }
+    true
 }

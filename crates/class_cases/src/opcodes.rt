@@ -1,17 +1,21 @@
 //! Opcodes (JVMS 7): the number of the opcode of a number, its mnemonic, and whether it is analysed or as what construct it
 //! is not.
 
-use case_texts::CaseError;
+use case_texts::Case;
 use op_table::{Op, Support, support};
-use std::alloc::Global;
 
-pub fn answer(alloc: Global, _given: &str, input: &str) -> Result<String, CaseError> {
-    let Some(op) = Op::from_number(input.parse()?) else {
-        return Ok(String::from_str(alloc, "none")?);
-    };
-    let word = match support(op) {
-        Support::Yes => "yes",
-        Support::No(construct) => construct.word(),
-    };
-    Ok(format!(in alloc; "{} {} {word}", op.number(), op.name())?)
+fn put_opcode(case: &mut Case<'_>, op: Op) {
+    case.show(&op.number());
+    case.put_word(op.name());
+    match support(op) {
+        Support::Yes => case.put_word("yes"),
+        Support::No(construct) => case.put_word(construct.word()),
+    }
+}
+
+pub fn answer(case: &mut Case<'_>) {
+    match Op::from_number(case.number()) {
+        Some(op) => put_opcode(case, op),
+        None => case.put("none"),
+    }
 }

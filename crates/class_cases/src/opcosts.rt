@@ -1,48 +1,46 @@
 //! What opcodes and instructions cost where each costs 1. The input is the number of an opcode, or `code` and the bytes of
 //! an instruction, or `all` for each opcode, with the first from which on a cost is another one.
 
-use crate::instructions::decode_in;
+use crate::instructions::{code_of, decode_in};
 use crate::summaries::Summary;
-use case_texts::CaseError;
-use case_texts::texts::bytes_of;
+use case_texts::Case;
 use cost_model::CostModel;
 use op_table::Op;
-use std::alloc::{AllocError, Global};
 
-fn opcode_shown(alloc: Global, number: u8) -> Result<String, AllocError> {
+fn put_cost(case: &mut Case<'_>, number: u8) {
     match Op::from_number(number) {
-        Some(op) => format!(in alloc; "{}", CostModel::counting().charge(op)),
-        None => format!(in alloc; "no opcode"),
+        Some(op) => case.show(&CostModel::counting().charge(op)),
+        None => case.put("no opcode"),
     }
 }
 
-fn all_shown(alloc: Global) -> Result<String, AllocError> {
-    let mut summary = Summary::new(alloc);
+fn tell_all(case: &mut Case<'_>) {
+    let mut summary = Summary::new(case.alloc());
     for number in 0..=255u8 {
-        summary.push(usize::from(number), opcode_shown(alloc, number)?)?;
+        let mut cost = Case::new(case.alloc(), "", "");
+        put_cost(&mut cost, number);
+        summary.add(case, usize::from(number), cost);
     }
-    Ok(summary.into_text())
 }
 
-fn instruction_shown(alloc: Global, code: &[u8]) -> Result<String, AllocError> {
-    match decode_in(code, 0) {
+fn tell_instruction(case: &mut Case<'_>) {
+    let code = code_of(case);
+    match decode_in(code.as_slice(), 0) {
         Ok(instr) => {
-            let cost = CostModel::counting().charge_instr(&instr);
-            format!(in alloc; "{} {cost}", instr.op.name())
+            case.put(instr.op.name());
+            case.show_word(&CostModel::counting().charge_instr(&instr));
         }
-        Err(fault) => format!(in alloc; "{fault:?}"),
+        Err(fault) => case.show_debug(&fault),
     }
 }
 
-pub fn answer(alloc: Global, _given: &str, input: &str) -> Result<String, CaseError> {
-    if input == "all" {
-        return Ok(all_shown(alloc)?);
-    }
-    match input.split_once(' ') {
-        Some(("code", digits)) => {
-            let code = bytes_of(alloc, digits)?;
-            Ok(instruction_shown(alloc, code.as_slice())?)
+pub fn answer(case: &mut Case<'_>) {
+    match case.word() {
+        "all" => tell_all(case),
+        "code" => tell_instruction(case),
+        number => {
+            let number = case.parsed(number);
+            put_cost(case, number);
         }
-        _ => Ok(opcode_shown(alloc, input.parse()?)?),
     }
 }

@@ -4,10 +4,9 @@
 
 use crate::edits::edited_file;
 use crate::summaries::Summary;
-use case_texts::CaseError;
+use case_texts::Case;
 use class_pool::{Constant, Cursor, Pool, PoolFault, Text};
-use std::alloc::{AllocError, Global};
-use std::fmt::Write;
+use std::alloc::Global;
 use std::str;
 
 /// How many bytes a table's pool has at most.
@@ -21,35 +20,42 @@ fn pool_in<'a>(alloc: Global, bytes: &'a [u8]) -> Result<(Pool, Cursor<'a>), Poo
     Pool::read(alloc, Cursor::new(bytes, 8))
 }
 
-fn read_shown(alloc: Global, bytes: &[u8]) -> Result<String, AllocError> {
-    match pool_in(alloc, bytes) {
-        Ok((pool, cursor)) => {
-            let (at, left) = (cursor.at(), cursor.left());
-            let count = pool.entries().len();
-            format!(in alloc; "to {at}, {left} left, {count} indices")
-        }
-        Err(fault) => format!(in alloc; "{fault:?}"),
+/// Where the pool ends, and what is behind it and in it.
+fn put_read(case: &mut Case<'_>, pool: &Pool, cursor: &Cursor<'_>) {
+    case.put("to ");
+    case.show(&cursor.at());
+    case.put(", ");
+    case.show(&cursor.left());
+    case.put(" left, ");
+    case.show(&pool.entries().len());
+    case.put(" indices");
+}
+
+fn tell(case: &mut Case<'_>, bytes: &[u8]) {
+    match pool_in(case.alloc(), bytes) {
+        Ok((pool, cursor)) => put_read(case, &pool, &cursor),
+        Err(fault) => case.show_debug(&fault),
     }
 }
 
 /// What becomes of the first bytes: `short` where they end too early, and are said to end where they do.
-fn front_shown(alloc: Global, front: &[u8]) -> Result<String, AllocError> {
+fn put_front(case: &mut Case<'_>, front: &[u8]) {
     let end = front.len().wrapping_add(8);
-    match pool_in(alloc, front) {
-        Ok(_) => format!(in alloc; "read"),
-        Err(PoolFault::Short { at }) if at as usize == end => format!(in alloc; "short"),
-        Err(fault) => format!(in alloc; "{fault:?}"),
+    match pool_in(case.alloc(), front) {
+        Ok(_) => case.put("read"),
+        Err(PoolFault::Short { at }) if at as usize == end => case.put("short"),
+        Err(fault) => case.show_debug(&fault),
     }
 }
 
 /// What becomes of the first bytes, from which number of them on.
-fn fronts_shown(alloc: Global, bytes: &[u8]) -> Result<String, AllocError> {
-    let mut summary = Summary::new(alloc);
-    for count in 0..bytes.len() {
-        summary.push(count, front_shown(alloc, &bytes[..count])?)?;
+fn tell_fronts(case: &mut Case<'_>, bytes: &[u8]) {
+    let mut summary = Summary::new(case.alloc());
+    for count in 0..=bytes.len() {
+        let mut front = Case::new(case.alloc(), "", "");
+        put_front(&mut front, bytes.get(..count).unwrap_or(bytes));
+        summary.add(case, count, front);
     }
-    summary.push(bytes.len(), front_shown(alloc, bytes)?)?;
-    Ok(summary.into_text())
 }
 
 /// The text as text, and `?` where it has bytes that are none.
@@ -79,19 +85,21 @@ fn kind_of(entry: &Constant) -> &'static str {
     }
 }
 
-/// What stands in an entry behind its tag.
-fn body_of(alloc: Global, entry: &Constant) -> Result<String, AllocError> {
+fn put_pair(case: &mut Case<'_>, first: u16, second: u16) {
+    case.show_word(&first);
+    case.show_word(&second);
+}
+
+/// What stands in an entry that names others by their indices, behind its tag.
+fn put_indices(case: &mut Case<'_>, entry: &Constant) {
     match entry {
-        Constant::Utf8(text) => format!(in alloc; "{}", name_of(text)),
-        Constant::Integer(bits) | Constant::Float(bits) => format!(in alloc; "{bits:08x}"),
-        Constant::Long(bits) | Constant::Double(bits) => format!(in alloc; "{bits:016x}"),
         Constant::Class(index)
         | Constant::String(index)
         | Constant::MethodType(index)
         | Constant::Module(index)
-        | Constant::Package(index) => format!(in alloc; "{index}"),
-        Constant::MethodHandle { kind, reference } => format!(in alloc; "{kind} {reference}"),
-        Constant::NameAndType { name, descriptor } => format!(in alloc; "{name} {descriptor}"),
+        | Constant::Package(index) => case.show_word(index),
+        Constant::MethodHandle { kind, reference } => put_pair(case, u16::from(*kind), *reference),
+        Constant::NameAndType { name, descriptor } => put_pair(case, *name, *descriptor),
         Constant::Fieldref {
             class,
             name_and_type,
@@ -103,7 +111,7 @@ fn body_of(alloc: Global, entry: &Constant) -> Result<String, AllocError> {
         | Constant::InterfaceMethodref {
             class,
             name_and_type,
-        } => format!(in alloc; "{class} {name_and_type}"),
+        } => put_pair(case, *class, *name_and_type),
         Constant::Dynamic {
             bootstrap,
             name_and_type,
@@ -111,74 +119,100 @@ fn body_of(alloc: Global, entry: &Constant) -> Result<String, AllocError> {
         | Constant::InvokeDynamic {
             bootstrap,
             name_and_type,
-        } => format!(in alloc; "{bootstrap} {name_and_type}"),
+        } => put_pair(case, *bootstrap, *name_and_type),
+        _ => {}
+    }
+}
+
+/// What stands in an entry behind its tag.
+fn put_body(case: &mut Case<'_>, entry: &Constant) {
+    match entry {
+        Constant::Utf8(text) => case.put_word(name_of(text)),
+        Constant::Integer(bits) | Constant::Float(bits) => {
+            case.put(" ");
+            case.show_bytes(&bits.to_be_bytes());
+        }
+        Constant::Long(bits) | Constant::Double(bits) => {
+            case.put(" ");
+            case.show_bytes(&bits.to_be_bytes());
+        }
+        _ => put_indices(case, entry),
     }
 }
 
 /// The entry of an index, or what stands there in place of one.
-fn entry_shown(alloc: Global, pool: &Pool, index: u16) -> Result<String, AllocError> {
-    let place = usize::from(index).checked_sub(1);
-    match place.and_then(|place| pool.entries().get(place)) {
-        None => format!(in alloc; "nothing"),
-        Some(None) => format!(in alloc; "a gap"),
+fn put_entry(case: &mut Case<'_>, pool: &Pool, index: u16) {
+    let place = usize::from(index).wrapping_sub(1);
+    match pool.entries().get(place) {
+        None => case.put("nothing"),
+        Some(None) => case.put("a gap"),
         Some(Some(entry)) => {
-            let wide = if entry.is_wide() { "wide " } else { "" };
-            let body = body_of(alloc, entry)?;
-            format!(in alloc; "{wide}{} {body}", kind_of(entry))
+            case.put(if entry.is_wide() { "wide " } else { "" });
+            case.put(kind_of(entry));
+            put_body(case, entry);
         }
     }
 }
 
-/// The texts that are found at an index.
-fn show_names(out: &mut String, pool: &Pool, index: u16) -> Result<(), AllocError> {
+/// The text and the class that are found at an index.
+fn put_name(case: &mut Case<'_>, pool: &Pool, index: u16) {
     if let Some(text) = pool.utf8(index) {
-        write!(out, "; text {}", name_of(text))?;
+        case.put("; text ");
+        case.put(name_of(text));
     }
     if let Some(name) = pool.class_name(index) {
-        write!(out, "; class {}", name_of(name))?;
+        case.put("; class ");
+        case.put(name_of(name));
     }
+}
+
+/// The names of a member that are found at an index.
+fn put_member(case: &mut Case<'_>, pool: &Pool, index: u16) {
     if let Some((name, desc)) = pool.name_and_type(index) {
-        write!(out, "; name {} {}", name_of(name), name_of(desc))?;
+        case.put("; name");
+        case.put_word(name_of(name));
+        case.put_word(name_of(desc));
     }
     if let Some((tag, class, name, desc)) = pool.member(index) {
-        let (class, name) = (name_of(class), name_of(name));
-        write!(out, "; member {tag} {class} {name} {}", name_of(desc))?;
+        case.put("; member");
+        case.show_word(&tag);
+        case.put_word(name_of(class));
+        case.put_word(name_of(name));
+        case.put_word(name_of(desc));
     }
-    Ok(())
 }
 
 /// The numbers that are found at an index.
-fn show_numbers(out: &mut String, pool: &Pool, index: u16) -> Result<(), AllocError> {
+fn put_numbers(case: &mut Case<'_>, pool: &Pool, index: u16) {
     if let Some(int) = pool.int(index) {
-        write!(out, "; int {int}")?;
+        case.put("; int ");
+        case.show(&int);
     }
     if let Some(long) = pool.long(index) {
-        write!(out, "; long {long}")?;
+        case.put("; long ");
+        case.show(&long);
     }
-    Ok(())
 }
 
-fn index_shown(alloc: Global, bytes: &[u8], index: u16) -> Result<String, CaseError> {
-    let Ok((pool, _)) = pool_in(alloc, bytes) else {
-        return Err(CaseError::Malformed("no pool"));
-    };
-    let mut out = entry_shown(alloc, &pool, index)?;
-    show_names(&mut out, &pool, index)?;
-    show_numbers(&mut out, &pool, index)?;
-    Ok(out)
+fn tell_at(case: &mut Case<'_>, bytes: &[u8], index: u16) {
+    match pool_in(case.alloc(), bytes) {
+        Ok((pool, _)) => {
+            put_entry(case, &pool, index);
+            put_name(case, &pool, index);
+            put_member(case, &pool, index);
+            put_numbers(case, &pool, index);
+        }
+        Err(_) => case.malformed("no pool"),
+    }
 }
 
-pub fn answer(alloc: Global, given: &str, input: &str) -> Result<String, CaseError> {
-    let (verb, rest) = input.split_once(' ').ok_or("a case has a file")?;
-    if verb == "at" {
-        let (index, file) = rest.split_once(' ').ok_or("a case has a file")?;
-        let bytes = edited_file(alloc, given, file)?;
-        return index_shown(alloc, bytes.as_slice(), index.parse()?);
-    }
-    let bytes = edited_file(alloc, given, rest)?;
+pub fn answer(case: &mut Case<'_>) {
+    let verb = case.word();
+    let index = if verb == "at" { case.number() } else { 0 };
+    let bytes = edited_file(case);
     match verb {
-        "read" => Ok(read_shown(alloc, bytes.as_slice())?),
-        "fronts" => Ok(fronts_shown(alloc, bytes.as_slice())?),
-        _ => Err(CaseError::Malformed("no such question")),
+        "at" => tell_at(case, bytes.as_slice(), index),
+        "fronts" => tell_fronts(case, bytes.as_slice()),
+        _ => tell(case, bytes.as_slice()),
     }
 }

@@ -1,12 +1,11 @@
 //! Answers to inputs one after another, shown shortly.
 
-use std::alloc::{AllocError, Global};
-use std::fmt::Write;
+use case_texts::Case;
+use std::alloc::Global;
 
-/// The answers so far, each once with the first input that it stands for, and the last of them.
+/// The last of the answers.
 #[derive(Drop)]
 pub struct Summary {
-    all: String,
     last: String,
 }
 
@@ -14,25 +13,21 @@ impl Summary {
     /// No answers.
     pub fn new(alloc: Global) -> Summary {
         Summary {
-            all: String::new(alloc),
             last: String::new(alloc),
         }
     }
 
-    /// Adds the answer to the next input, which is this number.
-    pub fn push(&mut self, input: usize, answer: String) -> Result<(), AllocError> {
-        if answer != self.last {
-            if !self.all.is_empty() {
-                self.all.push_str(", ")?;
-            }
-            write!(self.all, "{answer} from {input}")?;
-            self.last = answer;
+    /// Adds the answer to the next input, which is this number, where it isn't that to the one before.
+    pub fn add(&mut self, case: &mut Case<'_>, input: usize, answer: Case<'_>) {
+        let answer = answer.end();
+        if let Some(text) = case.made(answer)
+            && text != self.last
+        {
+            case.part(", ");
+            case.put(text.as_str());
+            case.put(" from ");
+            case.show(&input);
+            self.last = text;
         }
-        Ok(())
-    }
-
-    /// The answers, each with the number of the first input that it is given from on.
-    pub fn into_text(self) -> String {
-        self.all
     }
 }

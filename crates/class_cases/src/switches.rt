@@ -5,12 +5,10 @@
 ghost use Rattle.std.specs.Prelude.{◌≡◌};
 ghost use Rattle.op_table.specs.Cases.{case_count};
 
-use crate::instructions::decode_in;
-use case_texts::CaseError;
+use crate::instructions::{code_of, decode_in};
+use case_texts::Case;
 use case_texts::texts::bytes_of;
-use op_table::{Args, Instr, case, decode};
-use std::alloc::{AllocError, Global};
-use std::fmt::Write;
+use op_table::{Args, Instr, case as case_at, decode};
 
 /// How many cases the instruction has.
 fn count_of(instr: &Instr) -> u32
@@ -29,7 +27,7 @@ fn case_in(code: &[u8], pc: u32, i: u32) -> Option<(i32, i32)> {
     }
     let found = decode(code, pc).ok()?;
     if i < count_of(&found) {
-        Some(case(code, pc, i))
+        Some(case_at(code, pc, i))
     } else {
         None
     }
@@ -43,44 +41,47 @@ fn count_in(code: &[u8], pc: u32) -> u32 {
     }
 }
 
-fn cases_shown(alloc: Global, code: &[u8], pc: u32) -> Result<String, AllocError> {
+fn put_cases(case: &mut Case<'_>, code: &[u8], pc: u32) {
     let count = count_in(code, pc);
-    let mut out = format!(in alloc; "{count}")?;
+    case.show(&count);
     for i in 0..count {
         if let Some((value, jump)) = case_in(code, pc, i) {
-            write!(out, ", {value} by {jump}")?;
+            case.put(", ");
+            case.show(&value);
+            case.put(" by ");
+            case.show(&jump);
         }
     }
-    Ok(out)
 }
 
 /// Adds the cases of a switch: the jump of each, and its value before it where a case has eight bytes.
-fn push_cases(code: &mut Vec<u8>, size: u32, count: u32) -> Result<(), AllocError> {
+fn push_cases(case: &mut Case<'_>, code: &mut Vec<u8>, size: u32, count: u32) {
     for i in 0..count {
         if size == 8 {
-            code.extend_from_slice(&i.to_be_bytes())?;
+            case.append(code, &i.to_be_bytes());
         }
-        code.extend_from_slice(&i.to_be_bytes())?;
+        case.append(code, &i.to_be_bytes());
     }
-    Ok(())
+    case.append(code, &[0; 3]);
 }
 
-fn longest_shown(alloc: Global, words: &str) -> Result<String, CaseError> {
-    let mut words = words.split(' ');
-    let mut code = bytes_of(alloc, words.next().ok_or("a switch has a head")?)?;
-    let size: u32 = words.next().ok_or("a case has a size")?.parse()?;
-    let count: u32 = words.next().ok_or("a switch has a count")?.parse()?;
-    push_cases(&mut code, size, count)?;
-    code.extend_from_slice(&[0; 3])?;
-    let last = case_in(code.as_slice(), 0, count.wrapping_sub(1));
-    Ok(format!(in alloc; "{} bytes, {last:?}", code.len())?)
+fn tell_longest(case: &mut Case<'_>) {
+    let head = case.word();
+    let mut code = bytes_of(case, head);
+    let (size, count): (u32, u32) = (case.number(), case.number());
+    push_cases(case, &mut code, size, count);
+    case.show(&code.len());
+    case.put(" bytes, ");
+    case.show_debug(&case_in(code.as_slice(), 0, count.wrapping_sub(1)));
 }
 
-pub fn answer(alloc: Global, _given: &str, input: &str) -> Result<String, CaseError> {
-    if let Some(("longest", words)) = input.split_once(' ') {
-        return longest_shown(alloc, words);
+pub fn answer(case: &mut Case<'_>) {
+    match case.word() {
+        "longest" => tell_longest(case),
+        pc => {
+            let pc = case.parsed(pc.trim_end_matches(':'));
+            let code = code_of(case);
+            put_cases(case, code.as_slice(), pc);
+        }
     }
-    let (pc, digits) = input.split_once(": ").ok_or("a case has a place")?;
-    let code = bytes_of(alloc, digits)?;
-    Ok(cases_shown(alloc, code.as_slice(), pc.parse()?)?)
 }

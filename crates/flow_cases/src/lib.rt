@@ -7,33 +7,40 @@ mod program;
 mod reading;
 mod slots;
 
-use case_texts::CaseError;
-use fix_engine::solve;
-use marks::Marks;
-use std::alloc::Global;
+ghost use Rattle.std.specs.Prelude.{◌≡◌, length};
 
-/// The facts of the least solution, by point.
-fn solved(alloc: Global, input: &str) -> Result<String, CaseError> {
-    let program = reading::program_of(alloc, input)?;
-    let flow = Marks::of(&program);
-    let solution = solve(alloc, &flow)?;
-    let mut text = String::new(alloc);
-    for point in 0..program.points() {
-        text.push_str(reading::text_of(alloc, solution.at(point))?.as_str())?;
-        text.push(' ')?;
+use case_texts::Case;
+use fix_engine::{Solution, solve};
+use marks::Marks;
+use program::Program;
+use slots::Slots;
+
+/// The facts of a solution, by point.
+fn put_facts(case: &mut Case<'_>, points: u32, solution: &Solution<Slots>)
+    requires { points ≡ length solution.now }
+{
+    for point in 0..points {
+        case.part(" ");
+        reading::put_slots(case, solution.at(point));
     }
-    Ok(String::from_str(alloc, text.as_str().trim_end())?)
 }
 
-/// What the subject answers to the input of a case, and nothing where the subject isn't this one.
-pub fn answer(
-    alloc: Global,
-    subject: &str,
-    _given: &str,
-    input: &str,
-) -> Result<Option<String>, CaseError> {
-    match subject {
-        "flows" => Ok(Some(solved(alloc, input)?)),
-        _ => Ok(None),
+/// The facts of the least solution.
+fn put_least(case: &mut Case<'_>, program: &Program) {
+    let flow = Marks::of(program);
+    let solution = solve(case.alloc(), &flow);
+    if let Some(solution) = case.made(solution) {
+        put_facts(case, program.points(), &solution);
     }
+}
+
+/// Answers the case, and tells whether the subject is this one.
+pub fn answer(subject: &str, case: &mut Case<'_>) -> bool {
+    if subject != "flows" {
+        return false;
+    }
+    if let Some(program) = reading::program_of(case) {
+        put_least(case, &program);
+    }
+    true
 }

@@ -5,79 +5,95 @@
 use crate::edge::{Edge, Way};
 use crate::program::Program;
 use crate::slots::Slots;
-use case_texts::CaseError;
-use case_texts::texts::words_of;
-use std::alloc::{AllocError, Global};
+use case_texts::Case;
 
 /// The slots of a word.
-fn slots_of(alloc: Global, word: &str) -> Result<Slots, CaseError> {
-    let mut slots = Vec::new(alloc);
+fn slots_of(case: &mut Case<'_>, word: &str) -> Slots {
+    let mut slots = Vec::new(case.alloc());
     for digit in word.chars() {
         match digit {
-            '0' => slots.push(false)?,
-            '1' => slots.push(true)?,
+            '0' => case.add(&mut slots, false),
+            '1' => case.add(&mut slots, true),
             '-' => {}
-            _ => return Err(CaseError::Malformed("a slot is 0 or 1")),
+            _ => case.malformed("a slot is 0 or 1"),
         }
     }
-    Ok(Slots::of(slots))
+    Slots::of(slots)
 }
 
 /// The number behind a sign, where the sign is there, and what stands before it.
-fn cut(word: &str, sign: char) -> Result<(&str, Option<u32>), CaseError> {
+fn cut<'a>(case: &mut Case<'_>, word: &'a str, sign: char) -> (&'a str, Option<u32>) {
     match word.split_once(sign) {
-        Some((before, number)) => Ok((before, Some(number.parse::<u32>()?))),
-        None => Ok((word, None)),
+        Some((before, number)) => (before, Some(case.parsed(number))),
+        None => (word, None),
     }
 }
 
-fn way_of(word: &str) -> Result<Way, CaseError> {
-    let (word, with) = cut(word, '&')?;
-    let (to, from) = cut(word, '<')?;
-    let to = to.parse::<u32>()?;
-    Ok(Way { to, from, with })
+fn way_of(case: &mut Case<'_>, word: &str) -> Way {
+    let (word, with) = cut(case, word, '&');
+    let (to, from) = cut(case, word, '<');
+    let to = case.parsed(to);
+    Way { to, from, with }
 }
 
-fn edge_of(alloc: Global, word: &str) -> Result<Edge, CaseError> {
-    let (ends, words) = word.split_once('=').unwrap_or((word, ""));
-    let (reads, goal) = ends.split_once('>').ok_or("an edge has a `>`")?;
-    let (source, also) = cut(reads, '+')?;
-    let source = source.parse::<u32>()?;
-    let goal = goal.parse::<u32>()?;
-    let mut ways = Vec::new(alloc);
+fn ways_of(case: &mut Case<'_>, words: &str) -> Vec<Way> {
+    let mut ways = Vec::new(case.alloc());
     for word in words.split_terminator(',') {
-        ways.push(way_of(word)?)?;
+        let way = way_of(case, word);
+        case.add(&mut ways, way);
     }
-    Ok(Edge {
-        source,
+    ways
+}
+
+fn edge_of(case: &mut Case<'_>, word: &str) -> Edge {
+    let (ends, words) = word.split_once('=').unwrap_or((word, ""));
+    let (reads, goal) = case.halves(ends, ">");
+    let (source, also) = cut(case, reads, '+');
+    Edge {
+        source: case.parsed(source),
         also,
-        goal,
-        ways,
-    })
+        goal: case.parsed(goal),
+        ways: ways_of(case, words),
+    }
 }
 
-/// The program of this text.
-pub fn program_of(alloc: Global, text: &str) -> Result<Program, CaseError> {
-    let (points, arrows) = text.split_once(':').ok_or("a program has a `:`")?;
-    let mut starts = Vec::new(alloc);
-    for word in &words_of(alloc, points)? {
-        starts.push(slots_of(alloc, word.as_str())?)?;
+fn starts_of(case: &mut Case<'_>, words: &str) -> Vec<Slots> {
+    let mut starts = Vec::new(case.alloc());
+    for word in words.split_whitespace() {
+        let slots = slots_of(case, word);
+        case.add(&mut starts, slots);
     }
-    let mut edges = Vec::new(alloc);
-    for word in &words_of(alloc, arrows)? {
-        edges.push(edge_of(alloc, word.as_str())?)?;
-    }
-    Ok(Program::new(starts, edges).ok_or("no program")?)
+    starts
 }
 
-/// The slots as a word.
-pub fn text_of(alloc: Global, slots: &Slots) -> Result<String, AllocError> {
-    let mut text = String::new(alloc);
+fn edges_of(case: &mut Case<'_>, words: &str) -> Vec<Edge> {
+    let mut edges = Vec::new(case.alloc());
+    for word in words.split_whitespace() {
+        let edge = edge_of(case, word);
+        case.add(&mut edges, edge);
+    }
+    edges
+}
+
+/// The program of the input.
+pub fn program_of(case: &mut Case<'_>) -> Option<Program> {
+    let edges = case.behind(":");
+    let starts = case.rest();
+    let starts = starts_of(case, starts);
+    let edges = edges_of(case, edges);
+    let program = Program::new(starts, edges);
+    if program.is_none() {
+        case.malformed("no program");
+    }
+    program
+}
+
+/// Adds the slots to the answer as a word.
+pub fn put_slots(case: &mut Case<'_>, slots: &Slots) {
     for is_marked in slots.as_slice() {
-        text.push(if *is_marked { '1' } else { '0' })?;
+        case.put(if *is_marked { "1" } else { "0" });
     }
-    if text.is_empty() {
-        text.push('-')?;
+    if slots.as_slice().is_empty() {
+        case.put("-");
     }
-    Ok(text)
 }

@@ -4,8 +4,8 @@ ghost use Rattle.std.specs.Prelude.{◌<◌, length};
 ghost use Rattle.graph_core.specs.Search.{IsSearch};
 
 use crate::reading::graph_of_bits;
-use crate::telling::{covers_told, fault_told, nest_told, numbers};
-use case_texts::CaseError;
+use crate::telling::{covers, put_cover_fault, put_nest, put_numbers};
+use case_texts::Case;
 use graph_core::{FirstPaths, Graph, first_paths};
 use std::alloc::{AllocError, Global};
 
@@ -21,23 +21,39 @@ fn some_edges(number: u64) -> u64 {
     (number >> 20) & (next(number) >> 20)
 }
 
+/// Whether the answers are the same.
+fn are_same(one: Case<'_>, other: Case<'_>) -> bool {
+    match (one.end(), other.end()) {
+        (Ok(one), Ok(other)) => one.as_str() == other.as_str(),
+        _ => false,
+    }
+}
+
 /// Whether both tell the same loops of a graph.
-fn same_nest(alloc: Global, g: &Graph) -> Result<bool, CaseError>
+fn same_nest(alloc: Global, g: &Graph) -> bool
     requires { 0 < length g.now }
 {
-    let quick = nest_told(alloc, graph_core::nest(alloc, g, 0))?;
-    let plain = nest_told(alloc, plain_graphs::nest(alloc, g, 0))?;
-    Ok(quick.as_str() == plain.as_str())
+    let mut quick = Case::new(alloc, "", "");
+    put_nest(&mut quick, graph_core::nest(alloc, g, 0));
+    let mut plain = Case::new(alloc, "", "");
+    put_nest(&mut plain, plain_graphs::nest(alloc, g, 0));
+    are_same(quick, plain)
+}
+
+fn put_plain_covers(plain: &mut Case<'_>, g: &Graph) {
+    match plain_graphs::covers(plain.alloc(), g) {
+        Ok(nodes) => put_numbers(plain, &nodes),
+        Err(fault) => put_cover_fault(plain, fault),
+    }
 }
 
 /// Whether both tell the same covers of a graph.
-fn same_covers(alloc: Global, g: &Graph) -> Result<bool, CaseError> {
-    let quick = covers_told(alloc, graph_covers::covers(alloc, g))?;
-    let plain = match plain_graphs::covers(alloc, g) {
-        Ok(nodes) => numbers(alloc, &nodes)?,
-        Err(fault) => fault_told(alloc, fault)?,
-    };
-    Ok(quick.as_str() == plain.as_str())
+fn same_covers(alloc: Global, g: &Graph) -> bool {
+    let mut quick = Case::new(alloc, "", "");
+    covers(&mut quick, g);
+    let mut plain = Case::new(alloc, "", "");
+    put_plain_covers(&mut plain, g);
+    are_same(quick, plain)
 }
 
 /// Whether the first path to `x` goes through the nodes that are told to lie on it.
@@ -70,65 +86,87 @@ fn same_paths(alloc: Global, g: &Graph) -> Result<bool, AllocError>
     Ok(true)
 }
 
-fn is_same(alloc: Global, g: &Graph) -> Result<bool, CaseError>
+/// Whether both tell the same of a graph, of its first paths only where this is asked.
+fn is_same(alloc: Global, g: &Graph, with_paths: bool) -> bool
     requires { 0 < length g.now }
 {
-    Ok(same_nest(alloc, g)? && same_covers(alloc, g)?)
+    let same_paths = !with_paths || same_paths(alloc, g).unwrap_or(false);
+    same_paths && same_nest(alloc, g) && same_covers(alloc, g)
+}
+
+/// Whether other things are told of the graph of these bits.
+fn differs(alloc: Global, nodes: u32, bits: u64, with_paths: bool) -> bool
+    requires { 0 < nodes }
+{
+    match graph_of_bits(alloc, nodes, bits) {
+        Ok(g) => !is_same(alloc, &g, with_paths),
+        Err(_) => true,
+    }
 }
 
 /// Of how many of all graphs of so many nodes other loops or covers are told.
-fn count_all(alloc: Global, nodes: u32, graphs: u64) -> Result<u64, CaseError>
+fn count_all(alloc: Global, nodes: u32, graphs: u64) -> u64
     requires { 0 < nodes }
 {
     let mut differ = 0u64;
     for bits in 0..graphs {
-        let g = graph_of_bits(alloc, nodes, bits)?;
-        if !is_same(alloc, &g)? {
+        if differs(alloc, nodes, bits, false) {
             differ = differ.wrapping_add(1);
         }
     }
-    Ok(differ)
+    differ
 }
 
 /// Of how many graphs with edges by chance other loops, covers or paths are told.
-fn count_by_chance(alloc: Global, nodes: u32, graphs: u64) -> Result<u64, CaseError>
+fn count_by_chance(alloc: Global, nodes: u32, graphs: u64) -> u64
     requires { 0 < nodes }
 {
     let mut differ = 0u64;
     let mut number = 1;
     for _ in 0..graphs {
         number = next(next(number));
-        let g = graph_of_bits(alloc, nodes, some_edges(number))?;
-        if !is_same(alloc, &g)? || !same_paths(alloc, &g)? {
+        if differs(alloc, nodes, some_edges(number), true) {
             differ = differ.wrapping_add(1);
         }
     }
-    Ok(differ)
+    differ
+}
+
+fn put_counts(case: &mut Case<'_>, nodes: u32, graphs: u64, differ: u64) {
+    case.show(&differ);
+    case.put(" of ");
+    case.show(&graphs);
+    case.put(" with ");
+    case.show(&nodes);
+    case.put(" nodes differ");
+}
+
+/// Compares on all graphs of so many nodes.
+fn compare_all(case: &mut Case<'_>) {
+    let nodes: u32 = case.number();
+    if nodes == 0 || nodes > 4 {
+        case.malformed("at most four nodes");
+        return;
+    }
+    let graphs = 1 << (nodes * nodes);
+    let differ = count_all(case.alloc(), nodes, graphs);
+    put_counts(case, nodes, graphs, differ);
+}
+
+/// Compares on so many graphs of so many nodes.
+fn compare_some(case: &mut Case<'_>, nodes: u32)
+    requires { 0 < nodes }
+{
+    let graphs = case.number();
+    let differ = count_by_chance(case.alloc(), nodes, graphs);
+    put_counts(case, nodes, graphs, differ);
 }
 
 /// Compares on all graphs of so many nodes (at most four), or on so many of some larger ones.
-pub(crate) fn compare(alloc: Global, text: &str) -> Result<String, CaseError> {
-    let (which, number) = text.split_once(' ').ok_or("a comparison has a number")?;
-    let (nodes, graphs, differ) = match which {
-        "all" => {
-            let nodes: u32 = number.parse()?;
-            if nodes == 0 || nodes > 4 {
-                return Err(CaseError::Malformed("at most four nodes"));
-            }
-            let graphs = 1 << (nodes * nodes);
-            (nodes, graphs, count_all(alloc, nodes, graphs)?)
-        }
-        "five" => (
-            5,
-            number.parse()?,
-            count_by_chance(alloc, 5, number.parse()?)?,
-        ),
-        "six" => (
-            6,
-            number.parse()?,
-            count_by_chance(alloc, 6, number.parse()?)?,
-        ),
-        _ => return Err(CaseError::Malformed("a comparison of this name is none")),
-    };
-    Ok(format!(in alloc; "{differ} of {graphs} with {nodes} nodes differ")?)
+pub(crate) fn compare(case: &mut Case<'_>) {
+    match case.word() {
+        "all" => compare_all(case),
+        "five" => compare_some(case, 5),
+        _ => compare_some(case, 6),
+    }
 }

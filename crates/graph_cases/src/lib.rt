@@ -7,46 +7,46 @@ mod ordering;
 mod reading;
 mod telling;
 
-use case_texts::CaseError;
-use std::alloc::Global;
+use case_texts::Case;
+use graph_core::Graph;
 
-/// What is told of a graph: its edges, or its paths, components, loops or covers.
-fn told(alloc: Global, what: &str, text: &str) -> Result<String, CaseError> {
-    let g = reading::graph_of(alloc, text)?;
+/// What is told of the edges and paths of a graph.
+fn tell_paths(case: &mut Case<'_>, what: &str, g: &Graph) {
     match what {
-        "edges" => telling::edges(alloc, &g),
-        "reversed" => telling::reversed(alloc, &g),
-        "without" => telling::without_last(alloc, &g),
-        "first-path" => telling::first_path(alloc, &g),
-        "on-first-path" => telling::on_first_path(alloc, &g),
-        "components" => telling::components(alloc, &g),
-        "nest" => telling::nest(alloc, &g),
-        "covers" => telling::covers(alloc, &g),
-        "ranks" => telling::ranks(alloc, &g),
-        "nested" => ordering::nested(alloc, &g),
-        _ => Err(CaseError::Malformed("nothing of this name is told of a graph")),
+        "edges" => telling::edges(case, g),
+        "first-path" => telling::first_path(case, g),
+        "on-first-path" => telling::on_first_path(case, g),
+        "reversed" => telling::reversed(case, g),
+        "without" => telling::without_last(case, g),
+        _ => case.malformed("nothing of this name is told of a graph"),
     }
 }
 
-fn graphs(alloc: Global, input: &str) -> Result<String, CaseError> {
-    let (what, text) = input.split_once(' ').ok_or("a case has two parts")?;
+/// What is told of the graph that comes next.
+fn tell(case: &mut Case<'_>, what: &str) {
+    let Some(g) = reading::graph_of(case) else {
+        return;
+    };
     match what {
-        "compare" => comparing::compare(alloc, text),
-        "digest" => counting::digest(alloc, text),
-        "callees-first" => ordering::callees_first(alloc, text),
-        _ => told(alloc, what, text),
+        "components" => telling::components(case, &g),
+        "covers" => telling::covers(case, &g),
+        "nest" => telling::nest(case, &g),
+        "nested" => ordering::nested(case, &g),
+        "ranks" => telling::ranks(case, &g),
+        _ => tell_paths(case, what, &g),
     }
 }
 
-/// What the subject answers to the input of a case, and nothing where the subject isn't one of these.
-pub fn answer(
-    alloc: Global,
-    subject: &str,
-    _given: &str,
-    input: &str,
-) -> Result<Option<String>, CaseError> {
-    match subject {
-        "graphs" => Ok(Some(graphs(alloc, input)?)),
-        _ => Ok(None),
+/// Answers the case, and tells whether the subject is one of these.
+pub fn answer(subject: &str, case: &mut Case<'_>) -> bool {
+    if subject != "graphs" {
+        return false;
     }
+    match case.word() {
+        "callees-first" => ordering::callees_first(case),
+        "compare" => comparing::compare(case),
+        "digest" => counting::digest(case),
+        what => tell(case, what),
+    }
+    true
 }

@@ -1,72 +1,86 @@
 //! The callee-first order of a graph's components, and how its loops lie in one another, as text.
 
-ghost use Rattle.std.specs.Prelude.{◌≡◌, length, IfOk};
+ghost use Rattle.std.specs.Prelude.{◌≡◌, length, IfSome};
 
 use crate::reading::graph_of;
-use crate::telling::numbers;
-use case_texts::CaseError;
+use crate::telling::{put_nest_fault, put_numbers};
+use case_texts::Case;
 use graph_core::Graph;
-use graph_core::loops::NestFault;
 use graph_loops::NestedLoops;
-use std::alloc::{AllocError, Global};
 
 /// The marks of the nodes that are named.
-fn chosen_of(alloc: Global, words: &str, nodes: usize) -> Result<Vec<bool>, CaseError>
-    ensures { IfOk result (λ chosen. length chosen.items ≡ nodes) }
+fn chosen_of(case: &mut Case<'_>, words: &str, nodes: usize) -> Option<Vec<bool>>
+    ensures { IfSome result (λ chosen. length chosen.items ≡ nodes) }
 {
-    let mut chosen = vec![in alloc; false; nodes]?;
+    let unmarked = vec![in case.alloc(); false; nodes];
+    let mut chosen = case.made(unmarked)?;
     for word in words.split_whitespace() {
-        let node: usize = word.parse()?;
-        if node >= nodes {
-            return Err(CaseError::Malformed("a chosen node is a node"));
+        let node: usize = case.parsed(word);
+        if node < nodes {
+            chosen[node] = true;
+        } else {
+            case.malformed("a chosen node is a node");
         }
-        chosen[node] = true;
     }
-    Ok(chosen)
+    if chosen.len() == nodes {
+        Some(chosen)
+    } else {
+        None
+    }
 }
 
-/// The order of a text: the chosen nodes, `of`, and a graph.
-pub(crate) fn callees_first(alloc: Global, text: &str) -> Result<String, CaseError> {
-    let (words, graph) = text
-        .split_once("of ")
-        .ok_or("the chosen nodes stand before a graph")?;
-    let g = graph_of(alloc, graph)?;
-    let chosen = chosen_of(alloc, words, g.nodes() as usize)?;
-    let order = graph_order::callees_first(alloc, &g, &chosen)?;
-    Ok(numbers(alloc, &order)?)
+/// The order of the chosen nodes.
+fn put_order(case: &mut Case<'_>, g: &Graph, words: &str) {
+    let Some(chosen) = chosen_of(case, words, g.nodes() as usize) else {
+        return;
+    };
+    match graph_order::callees_first(case.alloc(), g, &chosen) {
+        Ok(order) => put_numbers(case, &order),
+        Err(_) => case.put("memory"),
+    }
+}
+
+/// The order of what comes next: the chosen nodes, `of`, and a graph.
+pub(crate) fn callees_first(case: &mut Case<'_>) {
+    let words = case.until("of ");
+    if let Some(g) = graph_of(case) {
+        put_order(case, &g, words);
+    }
 }
 
 /// An entry, or a dash.
-fn entry(alloc: Global, found: Option<u32>) -> Result<String, AllocError> {
+fn put_entry(case: &mut Case<'_>, found: Option<u32>) {
     match found {
-        None => String::from_str(alloc, " -"),
-        Some(h) => format!(in alloc; " {h}"),
+        None => case.put_word("-"),
+        Some(h) => case.show_word(&h),
     }
 }
 
 /// The innermost loop of each node, its parent, and the order.
-fn loops_told(alloc: Global, nodes: u32, loops: &NestedLoops) -> Result<String, CaseError>
+fn put_loops(case: &mut Case<'_>, nodes: u32, loops: &NestedLoops)
     requires innermost { nodes ≡ length loops.now.innermost }
     requires parents { nodes ≡ length loops.now.parents }
 {
-    let mut inner = String::from_str(alloc, "inner")?;
-    let mut parents = String::from_str(alloc, "parents")?;
+    case.put("inner");
     for x in 0..nodes {
-        inner.push_str(entry(alloc, loops.innermost(x))?.as_str())?;
-        parents.push_str(entry(alloc, loops.parent(x))?.as_str())?;
+        put_entry(case, loops.innermost(x));
     }
-    let order = numbers(alloc, loops.order())?;
-    Ok(format!(in alloc; "{inner}, {parents}, order {order}")?)
+    case.put(", parents");
+    for x in 0..nodes {
+        put_entry(case, loops.parent(x));
+    }
+    case.put(", order");
+    put_numbers(case, loops.order());
 }
 
 /// How the loops of what the first node reaches lie in one another.
-pub(crate) fn nested(alloc: Global, g: &Graph) -> Result<String, CaseError> {
+pub(crate) fn nested(case: &mut Case<'_>, g: &Graph) {
     if g.nodes() == 0 {
-        return Err(CaseError::Malformed("a graph has a node"));
+        case.malformed("a graph has a node");
+        return;
     }
-    match graph_loops::loops(alloc, g, 0) {
-        Ok(loops) => loops_told(alloc, g.nodes(), &loops),
-        Err(NestFault::TwoEntries { a, b }) => Ok(format!(in alloc; "entries {a} {b}")?),
-        Err(NestFault::Memory) => Err(CaseError::Malformed("out of memory")),
+    match graph_loops::loops(case.alloc(), g, 0) {
+        Ok(loops) => put_loops(case, g.nodes(), &loops),
+        Err(fault) => put_nest_fault(case, fault),
     }
 }

@@ -2,27 +2,35 @@
 
 ghost use Rattle.std.specs.Prelude.{◌≡◌, ◌<◌, length, IfOk};
 
-use case_texts::CaseError;
+use case_texts::Case;
 use graph_core::Graph;
 use std::alloc::{AllocError, Global};
 
-fn edge_of(word: &str) -> Result<(u32, u32), CaseError> {
-    let (a, b) = word.split_once('-').ok_or("an edge has two nodes")?;
-    Ok((a.parse()?, b.parse()?))
+/// The edges that come next, each two nodes with a `-` between. Each node has to be one of so many.
+fn edges_of(case: &mut Case<'_>, nodes: u32) -> Vec<(u32, u32)> {
+    let mut edges = Vec::new(case.alloc());
+    for word in case.rest().split_whitespace() {
+        let (a, b) = case.halves(word, "-");
+        let (a, b) = (case.parsed(a), case.parsed(b));
+        if a < nodes && b < nodes {
+            case.add(&mut edges, (a, b));
+        } else {
+            case.malformed("an edge leads from a node to a node");
+        }
+    }
+    edges
 }
 
-/// The graph of a text: how many nodes there are, a colon, and the edges, each two nodes with a `-` between.
-pub(crate) fn graph_of(alloc: Global, text: &str) -> Result<Graph, CaseError> {
-    let (nodes, words) = text.split_once(':').ok_or("a graph has a colon")?;
-    let nodes = nodes.parse()?;
-    let mut edges = Vec::new(alloc);
-    for word in words.split_whitespace() {
-        edges.push(edge_of(word)?)?;
-    }
+/// The graph that comes next: how many nodes there are, a colon, and the edges.
+pub(crate) fn graph_of(case: &mut Case<'_>) -> Option<Graph> {
+    let nodes = case.until(":");
+    let nodes = case.parsed(nodes);
+    let edges = edges_of(case, nodes);
     if !edges.iter().all(|e| e.0 < nodes && e.1 < nodes) {
-        return Err(CaseError::Malformed("an edge leads from a node to a node"));
+        return None;
     }
-    Ok(Graph::from_edges(alloc, nodes, &edges)?)
+    let graph = Graph::from_edges(case.alloc(), nodes, &edges);
+    case.made(graph)
 }
 
 /// Adds the edges from `a` that the lowest bits stand for, and gives the bits that are left.

@@ -1,195 +1,214 @@
 //! What is told of a graph, as text.
 
 ghost use Rattle.std.specs.Prelude.{◌<◌, length};
+ghost use Rattle.graph_core.specs.Search.{IsSearch};
 
-use case_texts::CaseError;
+use case_texts::Case;
 use graph_core::loops::{Loop, Nest, NestFault};
-use graph_core::{Graph, first_paths};
-use graph_covers::cover::{CoverFault, Covers};
-use std::alloc::{AllocError, Global};
-
-const NO_MEMORY: CaseError = CaseError::Malformed("out of memory");
+use graph_core::{FirstPaths, Graph, first_paths};
+use graph_covers::cover::CoverFault;
+use std::alloc::AllocError;
 
 /// Numbers with a space between.
-pub(crate) fn numbers(alloc: Global, list: &[u32]) -> Result<String, AllocError> {
-    let mut text = String::new(alloc);
+pub(crate) fn put_numbers(case: &mut Case<'_>, list: &[u32]) {
     for number in list {
-        if !text.is_empty() {
-            text.push(' ')?;
-        }
-        text.push_str(format!(in alloc; "{number}")?.as_str())?;
+        case.show_word(number);
     }
-    Ok(text)
 }
 
-fn push_edges(alloc: Global, g: &Graph, a: u32, text: &mut String) -> Result<(), AllocError>
+fn put_edge(case: &mut Case<'_>, a: u32, b: u32) {
+    case.show_word(&a);
+    case.put("-");
+    case.show(&b);
+}
+
+fn put_edges(case: &mut Case<'_>, g: &Graph, a: u32)
     requires { a < length g.now }
 {
     for b in g.successors(a) {
         if g.has_edge(a, *b) {
-            text.push_str(format!(in alloc; " {a}-{b}")?.as_str())?;
+            put_edge(case, a, *b);
         }
     }
-    Ok(())
 }
 
-pub(crate) fn edges(alloc: Global, g: &Graph) -> Result<String, CaseError> {
-    let mut text = format!(in alloc; "{}:", g.nodes())?;
+pub(crate) fn edges(case: &mut Case<'_>, g: &Graph) {
+    case.show(&g.nodes());
+    case.put(":");
     for a in 0..g.nodes() {
-        push_edges(alloc, g, a, &mut text)?;
+        put_edges(case, g, a);
     }
-    Ok(text)
 }
 
-pub(crate) fn reversed(alloc: Global, g: &Graph) -> Result<String, CaseError> {
-    let back = g.reversed(alloc)?;
-    edges(alloc, &back)
+/// The edges of a graph that was made.
+fn edges_of(case: &mut Case<'_>, made: Result<Graph, AllocError>) {
+    if let Some(g) = case.made(made) {
+        edges(case, &g);
+    }
+}
+
+pub(crate) fn reversed(case: &mut Case<'_>, g: &Graph) {
+    let back = g.reversed(case.alloc());
+    edges_of(case, back);
 }
 
 /// The edges that don't lead to the last node.
-pub(crate) fn without_last(alloc: Global, g: &Graph) -> Result<String, CaseError> {
-    let mut dropped = vec![in alloc; false; g.nodes() as usize]?;
+pub(crate) fn without_last(case: &mut Case<'_>, g: &Graph) {
+    let dropped = vec![in case.alloc(); false; g.nodes() as usize];
+    let Some(mut dropped) = case.made(dropped) else {
+        return;
+    };
     if let Some(last) = dropped.last_mut() {
         *last = true;
     }
-    let kept = g.without(alloc, &dropped)?;
-    edges(alloc, &kept)
+    let kept = g.without(case.alloc(), &dropped);
+    edges_of(case, kept);
 }
 
 /// The first path from the first node to the last one, by looking through all paths.
-pub(crate) fn first_path(alloc: Global, g: &Graph) -> Result<String, CaseError> {
+pub(crate) fn first_path(case: &mut Case<'_>, g: &Graph) {
     if g.nodes() == 0 {
-        return Err(CaseError::Malformed("a graph has a node"));
+        case.malformed("a graph has a node");
+        return;
     }
-    match plain_graphs::first_path(alloc, g, 0, g.nodes() - 1)? {
-        None => Ok(String::from_str(alloc, "none")?),
-        Some(rest) => Ok(numbers(alloc, &rest)?),
+    match plain_graphs::first_path(case.alloc(), g, 0, g.nodes() - 1) {
+        Ok(Some(rest)) => put_numbers(case, &rest),
+        Ok(None) => case.put("none"),
+        Err(_) => case.put("memory"),
+    }
+}
+
+/// The nodes on the first path to the last node, in rising order.
+fn put_on_path(case: &mut Case<'_>, g: &Graph, paths: &FirstPaths)
+    requires root { 0 < length g.now }
+    requires paths { IsSearch g.now 0 paths.now }
+{
+    let last = g.nodes() - 1;
+    if !paths.reaches(last) {
+        case.put("none");
+        return;
+    }
+    for h in 0..g.nodes() {
+        if paths.lies_on(h, last) {
+            case.show_word(&h);
+        }
     }
 }
 
 /// The nodes of the first path from the first node to the last one, in rising order, by a search.
-pub(crate) fn on_first_path(alloc: Global, g: &Graph) -> Result<String, CaseError> {
+pub(crate) fn on_first_path(case: &mut Case<'_>, g: &Graph) {
     if g.nodes() == 0 {
-        return Err(CaseError::Malformed("a graph has a node"));
+        case.malformed("a graph has a node");
+        return;
     }
-    let last = g.nodes() - 1;
-    let paths = first_paths(alloc, g, 0)?;
-    if !paths.reaches(last) {
-        return Ok(String::from_str(alloc, "none")?);
+    match first_paths(case.alloc(), g, 0) {
+        Ok(paths) => put_on_path(case, g, &paths),
+        Err(_) => case.put("memory"),
     }
-    let mut nodes = Vec::new(alloc);
-    for h in 0..g.nodes() {
-        if paths.lies_on(h, last) {
-            nodes.push(h)?;
-        }
-    }
-    Ok(numbers(alloc, &nodes)?)
 }
 
 /// The number of each node's component, and how many there are.
-pub(crate) fn components(alloc: Global, g: &Graph) -> Result<String, CaseError> {
-    let found = graph_core::components(alloc, g)?;
-    let mut list = Vec::new(alloc);
-    for v in 0..g.nodes() {
-        list.push(found.of(v))?;
-    }
-    let text = numbers(alloc, &list)?;
-    Ok(format!(in alloc; "{text} of {}", found.count())?)
-}
-
-fn loop_told(alloc: Global, l: &Loop) -> Result<String, AllocError> {
-    let nodes = numbers(alloc, l.nodes())?;
-    format!(in alloc; "{}: {nodes};", l.entry())
-}
-
-fn loops_told(alloc: Global, loops: &[Loop]) -> Result<String, AllocError> {
-    let mut text = String::new(alloc);
-    for l in loops {
-        if !text.is_empty() {
-            text.push(' ')?;
+pub(crate) fn components(case: &mut Case<'_>, g: &Graph) {
+    match graph_core::components(case.alloc(), g) {
+        Ok(found) => {
+            for v in 0..g.nodes() {
+                case.show_word(&found.of(v));
+            }
+            case.put(" of ");
+            case.show(&found.count());
         }
-        text.push_str(loop_told(alloc, l)?.as_str())?;
+        Err(_) => case.put("memory"),
     }
-    Ok(text)
+}
+
+fn put_loop(case: &mut Case<'_>, l: &Loop) {
+    case.show_word(&l.entry());
+    case.put(":");
+    put_numbers(case, l.nodes());
+    case.put(";");
+}
+
+/// The two entries of a loop.
+pub(crate) fn put_nest_fault(case: &mut Case<'_>, fault: NestFault) {
+    match fault {
+        NestFault::TwoEntries { a, b } => {
+            case.put("entries");
+            case.show_word(&a);
+            case.show_word(&b);
+        }
+        NestFault::Memory => case.put("memory"),
+    }
 }
 
 /// The loops, or where one is also entered.
-pub(crate) fn nest_told(alloc: Global, told: Result<Nest, NestFault>) -> Result<String, CaseError> {
+pub(crate) fn put_nest(case: &mut Case<'_>, told: Result<Nest, NestFault>) {
     match told {
-        Ok(nest) => Ok(loops_told(alloc, nest.loops())?),
-        Err(NestFault::TwoEntries { a, b }) => Ok(format!(in alloc; "entries {a} {b}")?),
-        Err(NestFault::Memory) => Err(NO_MEMORY),
+        Ok(nest) => {
+            for l in nest.loops() {
+                put_loop(case, l);
+            }
+        }
+        Err(fault) => put_nest_fault(case, fault),
     }
 }
 
 /// The loops of what the first node reaches.
-pub(crate) fn nest(alloc: Global, g: &Graph) -> Result<String, CaseError> {
+pub(crate) fn nest(case: &mut Case<'_>, g: &Graph) {
     if g.nodes() == 0 {
-        return Err(CaseError::Malformed("a graph has a node"));
+        case.malformed("a graph has a node");
+        return;
     }
-    nest_told(alloc, graph_core::nest(alloc, g, 0))
+    let nest = graph_core::nest(case.alloc(), g, 0);
+    put_nest(case, nest);
 }
 
 /// Why there are no covers.
-pub(crate) fn fault_told(alloc: Global, fault: CoverFault) -> Result<String, CaseError> {
+pub(crate) fn put_cover_fault(case: &mut Case<'_>, fault: CoverFault) {
     match fault {
         CoverFault::NoCover { avoided } => {
-            let list = numbers(alloc, &avoided)?;
-            Ok(format!(in alloc; "avoided {list}")?)
+            case.put("avoided");
+            put_numbers(case, &avoided);
         }
-        CoverFault::Memory => Err(NO_MEMORY),
+        CoverFault::Memory => case.put("memory"),
     }
 }
 
 /// The cover of each node, or why there are none.
-pub(crate) fn covers_told(
-    alloc: Global,
-    told: Result<Covers, CoverFault>,
-) -> Result<String, CaseError> {
-    match told {
-        Ok(covers) => Ok(numbers(alloc, covers.as_slice())?),
-        Err(fault) => fault_told(alloc, fault),
+pub(crate) fn covers(case: &mut Case<'_>, g: &Graph) {
+    match graph_covers::covers(case.alloc(), g) {
+        Ok(covers) => put_numbers(case, covers.as_slice()),
+        Err(fault) => put_cover_fault(case, fault),
     }
 }
 
-pub(crate) fn covers(alloc: Global, g: &Graph) -> Result<String, CaseError> {
-    covers_told(alloc, graph_covers::covers(alloc, g))
-}
-
 /// The edges to nodes that are no covers along which ranks don't go down.
-fn push_level(
-    alloc: Global,
-    g: &Graph,
-    covers: &[u32],
-    ranks: &[u32],
-    a: u32,
-    text: &mut String,
-) -> Result<(), AllocError>
+fn put_level(case: &mut Case<'_>, g: &Graph, covers: &[u32], ranks: &[u32], a: u32)
     requires { a < length g.now }
 {
     for b in g.successors(a) {
         if covers.get(*b as usize) != Some(b) && ranks.get(*b as usize) >= ranks.get(a as usize) {
-            text.push_str(format!(in alloc; " {a}-{b}")?.as_str())?;
+            put_edge(case, a, *b);
         }
     }
-    Ok(())
 }
 
 /// The edges along which ranks have to go down and don't.
-pub(crate) fn ranks(alloc: Global, g: &Graph) -> Result<String, CaseError> {
-    let covers = match graph_covers::covers(alloc, g) {
+pub(crate) fn ranks(case: &mut Case<'_>, g: &Graph) {
+    let covers = match graph_covers::covers(case.alloc(), g) {
         Ok(covers) => covers,
-        Err(fault) => return fault_told(alloc, fault),
+        Err(fault) => {
+            put_cover_fault(case, fault);
+            return;
+        }
     };
-    let mut ranks = Vec::new(alloc);
-    let mut nodes = Vec::new(alloc);
+    let mut ranks = Vec::new(case.alloc());
+    let mut nodes = Vec::new(case.alloc());
     for v in 0..g.nodes() {
-        nodes.push(covers.cover(v))?;
-        ranks.push(covers.rank(v))?;
+        case.add(&mut nodes, covers.cover(v));
+        case.add(&mut ranks, covers.rank(v));
     }
-    let mut text = String::from_str(alloc, "level:")?;
+    case.put("level:");
     for a in 0..g.nodes() {
-        push_level(alloc, g, &nodes, &ranks, a, &mut text)?;
+        put_level(case, g, &nodes, &ranks, a);
     }
-    Ok(text)
 }

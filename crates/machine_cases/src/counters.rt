@@ -1,45 +1,53 @@
 //! Runs of counters that call one another: the first counter, and its actions, `count`, `call` and `return`.
 
-use case_texts::CaseError;
-use case_texts::texts::words_of;
-use nested_runs::{Action, RunError, run};
-use std::alloc::Global;
+use case_texts::Case;
+use nested_runs::{Action, Counters, RunError, run};
 
-fn action_of(word: &str) -> Result<Action, CaseError> {
+fn action_of(case: &mut Case<'_>, word: &str) -> Action {
     match word {
-        "call" => Ok(Action::Call),
-        "count" => Ok(Action::Count),
-        "return" => Ok(Action::Return),
-        _ => Err(CaseError::Malformed("no action")),
+        "call" => Action::Call,
+        "count" => Action::Count,
+        "return" => Action::Return,
+        _ => {
+            case.malformed("no action");
+            Action::Return
+        }
     }
 }
 
-fn ran(alloc: Global, counter: u32, actions: &[Action]) -> Result<String, CaseError> {
-    let counters = match run(alloc, counter, actions) {
-        Ok(counters) => counters,
-        Err(RunError::Stuck) => return Ok(String::from_str(alloc, "stuck")?),
-        Err(RunError::Memory) => return Ok(String::from_str(alloc, "memory")?),
-    };
-    let running = counters.running();
-    let state = if counters.has_ended() {
+fn actions_of(case: &mut Case<'_>) -> Vec<Action> {
+    let mut actions = Vec::new(case.alloc());
+    for word in case.rest().split_whitespace() {
+        let action = action_of(case, word);
+        case.add(&mut actions, action);
+    }
+    actions
+}
+
+fn state_of(counters: &Counters) -> &'static str {
+    if counters.has_ended() {
         "ended"
     } else if counters.can(Action::Count) {
         "may count"
     } else {
         "may return"
-    };
-    Ok(format!(in alloc; "spent {} left {running} {state}", counters.spent())?)
+    }
 }
 
-pub fn answer(alloc: Global, _given: &str, input: &str) -> Result<String, CaseError> {
-    let words = words_of(alloc, input)?;
-    let [counter, words @ ..] = words.as_slice() else {
-        return Err(CaseError::Malformed("a run has a counter"));
-    };
-    let counter = u32::from_str_radix(counter.as_str(), 10)?;
-    let mut actions = Vec::new(alloc);
-    for word in words {
-        actions.push(action_of(word.as_str())?)?;
+fn put_counters(case: &mut Case<'_>, counters: &Counters) {
+    case.put("spent ");
+    case.show(&counters.spent());
+    case.put(" left ");
+    case.show(&counters.running());
+    case.put_word(state_of(counters));
+}
+
+pub fn answer(case: &mut Case<'_>) {
+    let counter = case.number();
+    let actions = actions_of(case);
+    match run(case.alloc(), counter, &actions) {
+        Ok(counters) => put_counters(case, &counters),
+        Err(RunError::Stuck) => case.put("stuck"),
+        Err(RunError::Memory) => case.put("memory"),
     }
-    ran(alloc, counter, &actions)
 }

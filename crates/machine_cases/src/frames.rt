@@ -1,216 +1,198 @@
 //! Locals and stacks: `locals` with a size and the first words, or `stack` with its values, the lowest first; and
 //! behind each `;` what is done with them. The answer has a word for each that answers something.
 
-use crate::values::{value_of, values_of, word_of, word_or_none};
-use case_texts::CaseError;
-use case_texts::texts::words_of;
+use crate::values::{put_value, put_value_or_none, value_of, values_of};
+use case_texts::Case;
 use machine::{Locals, Stack, Value};
 use op_table::acts::Kind;
-use std::alloc::{AllocError, Global};
 
-fn kind_of(word: &str) -> Result<Kind, CaseError> {
+fn kind_of(word: &str) -> Kind {
     match word {
-        "int" => Ok(Kind::Int),
-        "long" => Ok(Kind::Long),
-        "reference" => Ok(Kind::Reference),
-        _ => Err(CaseError::Malformed("no kind")),
+        "int" => Kind::Int,
+        "long" => Kind::Long,
+        _ => Kind::Reference,
     }
 }
 
-fn number_of(word: &str) -> Result<u16, CaseError> {
-    Ok(u16::from_str_radix(word, 10)?)
+/// The value that the next word is.
+fn next_value(case: &mut Case<'_>) -> Value {
+    let word = case.word();
+    value_of(case, word)
 }
 
 /// Stores a value where it can be stored, and tells whether it can.
-fn store(
-    alloc: Global,
-    locals: &mut Locals,
-    local: u16,
-    value: Value,
-) -> Result<String, AllocError> {
-    if !locals.can_store(local, value) {
-        return String::from_str(alloc, "no");
+fn store(case: &mut Case<'_>, locals: &mut Locals) {
+    let local = case.number();
+    let value = next_value(case);
+    if locals.can_store(local, value) {
+        locals.store(local, value);
+        case.put("yes");
+    } else {
+        case.put("no");
     }
-    locals.store(local, value);
-    String::from_str(alloc, "yes")
 }
 
 /// Puts a word into a local that there is.
-fn set(
-    alloc: Global,
-    locals: &mut Locals,
-    local: usize,
-    value: Value,
-) -> Result<String, AllocError> {
-    if local >= locals.len() {
-        return String::from_str(alloc, "no");
+fn set(case: &mut Case<'_>, locals: &mut Locals) {
+    let local = case.number();
+    let value = next_value(case);
+    if local < locals.len() {
+        locals.set(local, value);
+        case.put("yes");
+    } else {
+        case.put("no");
     }
-    locals.set(local, value);
-    String::from_str(alloc, "yes")
+}
+
+fn load(case: &mut Case<'_>, locals: &Locals) {
+    let kind = kind_of(case.word());
+    let value = locals.load(kind, case.number());
+    put_value_or_none(case, value);
 }
 
 /// What one action on locals answers.
-fn on_locals(alloc: Global, locals: &mut Locals, words: &[String]) -> Result<String, CaseError> {
-    match words {
-        [what] if what.as_str() == "len" => Ok(format!(in alloc; "{}", locals.len())?),
-        [what, local] if what.as_str() == "get" => {
-            let local = usize::from(number_of(local.as_str())?);
-            Ok(word_or_none(alloc, locals.get(local))?)
+fn on_locals(case: &mut Case<'_>, locals: &mut Locals, what: &str) {
+    match what {
+        "len" => case.show(&locals.len()),
+        "get" => {
+            let value = locals.get(case.number());
+            put_value_or_none(case, value);
         }
-        [what, kind, local] if what.as_str() == "load" => {
-            let value = locals.load(kind_of(kind.as_str())?, number_of(local.as_str())?);
-            Ok(word_or_none(alloc, value)?)
-        }
-        [what, local, value] if what.as_str() == "set" => {
-            let local = usize::from(number_of(local.as_str())?);
-            Ok(set(alloc, locals, local, value_of(value.as_str())?)?)
-        }
-        [what, local, value] if what.as_str() == "store" => {
-            let local = number_of(local.as_str())?;
-            Ok(store(alloc, locals, local, value_of(value.as_str())?)?)
-        }
-        _ => Err(CaseError::Malformed("no such action")),
+        "load" => load(case, locals),
+        "set" => set(case, locals),
+        _ => store(case, locals),
     }
 }
 
 /// The words of so many values on top, from the lowest up.
-fn front(alloc: Global, stack: &Stack<Value>, count: usize) -> Result<String, AllocError> {
-    let mut text = String::new(alloc);
+fn front(case: &mut Case<'_>, stack: &Stack<Value>) {
+    let count = case.number();
     if count <= stack.len() {
         for value in stack.front(count) {
-            text.push_str(word_of(alloc, *value)?.as_str())?;
+            put_value(case, *value);
         }
     }
-    Ok(text)
 }
 
 /// Puts values in the place of so many on top.
-fn replace(
-    alloc: Global,
-    stack: &mut Stack<Value>,
-    count: usize,
-    values: &[Value],
-) -> Result<String, AllocError> {
+fn replace(case: &mut Case<'_>, stack: &mut Stack<Value>) {
+    let count = case.number();
+    let values = case.rest();
+    let values = values_of(case, values);
     if count > stack.len() {
-        return String::from_str(alloc, "no");
+        case.put("no");
+        return;
     }
-    stack.replace(count, values)?;
-    String::from_str(alloc, "yes")
+    let replaced = stack.replace(count, &values);
+    case.keep(replaced);
+    case.put("yes");
 }
 
 /// Takes so many values off.
-fn cut(alloc: Global, stack: &mut Stack<Value>, count: usize) -> Result<String, AllocError> {
+fn cut(case: &mut Case<'_>, stack: &mut Stack<Value>) {
+    let count = case.number();
     if count > stack.len() {
-        return String::from_str(alloc, "no");
+        case.put("no");
+        return;
     }
     stack.cut(count);
-    format!(in alloc; "{}", stack.len())
+    case.show(&stack.len());
 }
 
 /// Changes the top with a value, and answers what it was.
-fn swap(alloc: Global, stack: &mut Stack<Value>, value: Value) -> Result<String, AllocError> {
+fn swap(case: &mut Case<'_>, stack: &mut Stack<Value>) {
+    let mut value = next_value(case);
     if stack.len() == 0 {
-        return String::from_str(alloc, "no");
+        case.put("no");
+        return;
     }
-    let mut other = value;
-    stack.swap_top(&mut other);
-    word_of(alloc, other)
+    stack.swap_top(&mut value);
+    put_value(case, value);
 }
 
-/// What an action of one word on a stack answers.
-fn ask_stack(alloc: Global, stack: &mut Stack<Value>, what: &str) -> Result<String, CaseError> {
+fn push(case: &mut Case<'_>, stack: &mut Stack<Value>) {
+    let value = next_value(case);
+    let pushed = stack.push(value);
+    case.keep(pushed);
+    case.show(&stack.len());
+}
+
+/// What one action on a stack answers, which changes what lies deeper.
+fn on_deep(case: &mut Case<'_>, stack: &mut Stack<Value>, what: &str) {
     match what {
-        "len" => Ok(format!(in alloc; "{}", stack.len())?),
-        "pop" => Ok(word_or_none(alloc, stack.pop())?),
-        "top" => Ok(word_or_none(alloc, stack.top().copied())?),
-        _ => Err(CaseError::Malformed("no such action")),
+        "cut" => cut(case, stack),
+        "front" => front(case, stack),
+        "get" => {
+            let value = stack.get(case.number());
+            put_value_or_none(case, value);
+        }
+        "replace" => replace(case, stack),
+        _ => case.malformed("no such action"),
     }
 }
 
-/// What an action with a number, or with a value, answers.
-fn on_stack(
-    alloc: Global,
-    stack: &mut Stack<Value>,
-    words: &[String],
-) -> Result<String, CaseError> {
-    let [what, first, others @ ..] = words else {
-        let what = words.first().ok_or("no such action")?;
-        return ask_stack(alloc, stack, what.as_str());
-    };
-    match what.as_str() {
-        "swap" => return Ok(swap(alloc, stack, value_of(first.as_str())?)?),
-        "push" => {
-            stack.push(value_of(first.as_str())?)?;
-            return Ok(format!(in alloc; "{}", stack.len())?);
-        }
-        _ => {}
-    }
-    let count = usize::from(number_of(first.as_str())?);
-    match what.as_str() {
-        "cut" => Ok(cut(alloc, stack, count)?),
-        "front" => Ok(front(alloc, stack, count)?),
-        "get" => Ok(word_or_none(alloc, stack.get(count))?),
-        "replace" => {
-            let values = values_of(alloc, others)?;
-            Ok(replace(alloc, stack, count, &values)?)
-        }
-        _ => Err(CaseError::Malformed("no such action")),
+/// What one action on a stack answers.
+fn on_stack(case: &mut Case<'_>, stack: &mut Stack<Value>, what: &str) {
+    match what {
+        "len" => case.show(&stack.len()),
+        "pop" => put_value_or_none(case, stack.pop()),
+        "push" => push(case, stack),
+        "swap" => swap(case, stack),
+        "top" => put_value_or_none(case, stack.top().copied()),
+        _ => on_deep(case, stack, what),
     }
 }
 
-/// The locals of a size with these first words.
-fn locals_of(alloc: Global, words: &[String]) -> Result<Locals, CaseError> {
-    let [size, words @ ..] = words else {
-        return Err(CaseError::Malformed("locals have a size"));
-    };
-    let size = usize::from(number_of(size.as_str())?);
-    let values = values_of(alloc, words)?;
+/// The locals of a size with the first words that come next.
+fn locals_of(case: &mut Case<'_>) -> Option<Locals> {
+    let size = case.number();
+    let values = case.rest();
+    let values = values_of(case, values);
     if values.len() > size {
-        return Err(CaseError::Malformed("more words than locals"));
+        case.malformed("more words than locals");
+        return None;
     }
-    Ok(Locals::of_words(values, size)?)
+    let locals = Locals::of_words(values, size);
+    case.made(locals)
 }
 
-/// The stack of these values, the lowest first.
-fn stack_of(alloc: Global, words: &[String]) -> Result<Stack<Value>, CaseError> {
-    let mut stack = Stack::new(alloc);
-    for value in values_of(alloc, words)? {
-        stack.push(value)?;
-    }
-    Ok(stack)
-}
-
-fn told_of_locals(alloc: Global, words: &[String], actions: &str) -> Result<String, CaseError> {
-    let mut locals = locals_of(alloc, words)?;
-    let mut text = String::new(alloc);
-    for action in actions.split("; ") {
-        let words = words_of(alloc, action)?;
-        text.push_str(on_locals(alloc, &mut locals, &words)?.as_str())?;
-        text.push(' ')?;
-    }
-    Ok(text)
-}
-
-fn told_of_stack(alloc: Global, words: &[String], actions: &str) -> Result<String, CaseError> {
-    let mut stack = stack_of(alloc, words)?;
-    let mut text = String::new(alloc);
-    for action in actions.split("; ") {
-        let words = words_of(alloc, action)?;
-        text.push_str(on_stack(alloc, &mut stack, &words)?.as_str())?;
-        text.push(' ')?;
-    }
-    Ok(text)
-}
-
-pub fn answer(alloc: Global, _given: &str, input: &str) -> Result<String, CaseError> {
-    let (made, actions) = input.split_once("; ").ok_or("a case has actions")?;
-    let words = words_of(alloc, made)?;
-    let [what, words @ ..] = words.as_slice() else {
-        return Err(CaseError::Malformed("a case is about something"));
+fn tell_locals<'a>(case: &mut Case<'a>, actions: &'a str) {
+    let Some(mut locals) = locals_of(case) else {
+        return;
     };
-    let told = match what.as_str() {
-        "locals" => told_of_locals(alloc, words, actions)?,
-        _ => told_of_stack(alloc, words, actions)?,
-    };
-    Ok(String::from_str(alloc, told.trim_end())?)
+    for action in actions.split("; ") {
+        case.turn_to(action);
+        case.part(" ");
+        let what = case.word();
+        on_locals(case, &mut locals, what);
+    }
+}
+
+/// The stack of the values that come next, the lowest first.
+fn stack_of(case: &mut Case<'_>) -> Stack<Value> {
+    let mut stack = Stack::new(case.alloc());
+    for word in case.rest().split_whitespace() {
+        let value = value_of(case, word);
+        let pushed = stack.push(value);
+        case.keep(pushed);
+    }
+    stack
+}
+
+fn tell_stack<'a>(case: &mut Case<'a>, actions: &'a str) {
+    let mut stack = stack_of(case);
+    for action in actions.split("; ") {
+        case.turn_to(action);
+        case.part(" ");
+        let what = case.word();
+        on_stack(case, &mut stack, what);
+    }
+}
+
+pub fn answer(case: &mut Case<'_>) {
+    let actions = case.behind("; ");
+    match case.word() {
+        "locals" => tell_locals(case, actions),
+        _ => tell_stack(case, actions),
+    }
 }

@@ -1,47 +1,117 @@
 //! What stands at a number of the heap that a table gives: a number, the word `in`, and the names of classes.
+//!
+//! The heap is the part that begins with a line `heap`. A line for each object is `object CLASS VALUES`, with the values
+//! of the first fields that its class declares, two at most, or of an array `array ELEMENT VALUES`.
 
-use crate::given::{class_name, question_of, shown, world_of};
-use crate::values::{heap_of, word_of};
-use case_texts::CaseError;
-use machine::{Cell, Heap};
-use std::alloc::{AllocError, Global};
-use world::World;
+ghost use Rattle.std.specs.Prelude.{◌≢◌, ◌<◌, ◌^◌, length, IfSome, AllPairs};
 
-fn cell_shown(alloc: Global, world: &World, cell: &Cell) -> Result<String, AllocError> {
-    let mut text = String::new(alloc);
+use crate::given::{class_name, name_of, shown, world_of};
+use crate::values::{put_value, values_of};
+use case_texts::Case;
+use class_pool::Text;
+use machine::{Cell, Heap, Value};
+use world::{MemberId, World};
+
+/// How many objects and arrays a case has at most.
+const MOST_CELLS: usize = 1000;
+
+/// Values for the first fields of a class.
+fn fields_of(case: &mut Case<'_>, class: u32, values: &[Value]) -> Option<Vec<(MemberId, Value)>>
+    ensures { IfSome result (λ v. AllPairs (λ f g. f.0 ≢ g.0) v.items) }
+{
+    let first = MemberId { class, member: 0 };
+    let second = MemberId { class, member: 1 };
+    match values {
+        [] => Some(Vec::new(case.alloc())),
+        [one] => [(first, *one)].to_vec(case.alloc()).ok(),
+        [one, two] => [(first, *one), (second, *two)].to_vec(case.alloc()).ok(),
+        _ => None,
+    }
+}
+
+/// Adds an object with these values in its first fields.
+fn add_object(case: &mut Case<'_>, heap: &mut Heap, class: u32, values: &[Value])
+    requires { length heap.old < 2 ^ 32 }
+{
+    match fields_of(case, class, values) {
+        Some(fields) => {
+            let added = heap.object(class, fields);
+            case.made(added);
+        }
+        None => case.malformed("too many fields"),
+    }
+}
+
+/// Adds an array of elements of this type.
+fn add_array(case: &mut Case<'_>, heap: &mut Heap, element: Text, values: Vec<Value>)
+    requires { length heap.old < 2 ^ 32 }
+{
+    let added = heap.array(element, values);
+    case.made(added);
+}
+
+/// Adds the object or array of this line.
+fn add(case: &mut Case<'_>, world: &World, heap: &mut Heap, line: &str) {
+    let (kind, line) = case.halves(line, " ");
+    let (name, values) = line.split_once(' ').unwrap_or((line, ""));
+    let values = values_of(case, values);
+    if heap.len() >= MOST_CELLS {
+        case.malformed("too many objects");
+    } else if kind == "array" {
+        if let Some(element) = name_of(case, name) {
+            add_array(case, heap, element, values);
+        }
+    } else if let Some(class) = world.class_named(name.as_bytes()) {
+        add_object(case, heap, class, &values);
+    } else {
+        case.malformed("no such class");
+    }
+}
+
+/// The heap that the table gives.
+pub fn heap_of(case: &mut Case<'_>, world: &World) -> Heap {
+    let mut heap = Heap::new(case.alloc());
+    let (_, lines) = case.given().split_once("\n\nheap\n").unwrap_or(("", ""));
+    for line in lines.lines() {
+        add(case, world, &mut heap, line);
+    }
+    heap
+}
+
+fn put_object(case: &mut Case<'_>, world: &World, class: u32, fields: &[(MemberId, Value)]) {
+    case.put("object ");
+    case.put(class_name(world, class));
+    for (field, value) in fields {
+        case.show_word(&field.member);
+        case.put("=");
+        put_value(case, *value);
+    }
+}
+
+fn put_array(case: &mut Case<'_>, element: &Text, items: &[Value]) {
+    case.put("array ");
+    case.put(shown(element));
+    for value in items {
+        case.put(" ");
+        put_value(case, *value);
+    }
+}
+
+fn put_cell(case: &mut Case<'_>, world: &World, cell: &Cell) {
     match cell {
-        Cell::Object { class, fields } => {
-            text.push_str(format!(in alloc; "object {}", class_name(world, *class))?.as_str())?;
-            for (field, value) in fields.as_slice() {
-                let word = word_of(alloc, *value)?;
-                text.push_str(format!(in alloc; " {}={word}", field.member)?.as_str())?;
-            }
-        }
-        Cell::Array { element, items } => {
-            text.push_str(format!(in alloc; "array {}", shown(element))?.as_str())?;
-            for value in items.as_slice() {
-                let word = word_of(alloc, *value)?;
-                text.push_str(format!(in alloc; " {word}")?.as_str())?;
-            }
-        }
-    }
-    Ok(text)
-}
-
-fn told(alloc: Global, world: &World, heap: &Heap, number: u32) -> Result<String, AllocError> {
-    let count = heap.len();
-    match heap.get(number) {
-        Some(cell) => {
-            let cell = cell_shown(alloc, world, cell)?;
-            format!(in alloc; "{cell} of {count}")
-        }
-        None => format!(in alloc; "none of {count}"),
+        Cell::Object { class, fields } => put_object(case, world, *class, fields.as_slice()),
+        Cell::Array { element, items } => put_array(case, element, items.as_slice()),
     }
 }
 
-pub fn answer(alloc: Global, given: &str, input: &str) -> Result<String, CaseError> {
-    let (question, names) = question_of(input)?;
-    let world = world_of(alloc, given, names)?;
-    let heap = heap_of(alloc, &world, given)?;
-    Ok(told(alloc, &world, &heap, u32::from_str_radix(question, 10)?)?)
+pub fn answer(case: &mut Case<'_>) {
+    if let Some(world) = world_of(case) {
+        let heap = heap_of(case, &world);
+        match heap.get(case.number()) {
+            Some(cell) => put_cell(case, &world, cell),
+            None => case.put("none"),
+        }
+        case.put(" of ");
+        case.show(&heap.len());
+    }
 }

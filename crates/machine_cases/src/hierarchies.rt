@@ -1,127 +1,160 @@
 //! What stands above given classes: a question, the word `in`, and the classes' names.
 
-use crate::given::{are_few, classes_of, question_of, shown};
-use case_texts::CaseError;
-use case_texts::texts::words_of;
+use crate::given::{are_few, classes_of, put_fault, shown};
+use case_texts::Case;
 use class_hierarchy::Hierarchy;
-use std::alloc::{AllocError, Global};
+use std::alloc::AllocError;
 
-fn hierarchy_of(alloc: Global, given: &str, names: &str) -> Result<Hierarchy, CaseError> {
-    let classes = classes_of(alloc, given, names)?;
+fn hierarchy_of(case: &mut Case<'_>) -> Option<Hierarchy> {
+    let classes = classes_of(case);
     if !are_few(&classes) {
-        return Err(CaseError::Malformed("too many classes"));
+        case.malformed("too many classes");
+        return None;
     }
-    match Hierarchy::build(alloc, classes) {
-        Ok(hierarchy) => Ok(hierarchy),
-        Err(_) => Err(CaseError::Malformed("no hierarchy")),
+    match Hierarchy::build(case.alloc(), classes) {
+        Ok(hierarchy) => Some(hierarchy),
+        Err(fault) => {
+            put_fault(case, &fault);
+            None
+        }
     }
 }
 
 /// The names of the classes with these numbers.
-fn names_of(alloc: Global, hierarchy: &Hierarchy, classes: &[u32]) -> Result<String, AllocError> {
-    let mut text = String::new(alloc);
+fn put_names(case: &mut Case<'_>, hierarchy: &Hierarchy, classes: &[u32]) {
     for class in classes {
-        if !text.is_empty() {
-            text.push(' ')?;
+        case.put_word(shown(&hierarchy.record(*class).name));
+    }
+}
+
+/// The names of the classes that were found.
+fn put_found(case: &mut Case<'_>, hierarchy: &Hierarchy, found: Result<Vec<u32>, AllocError>) {
+    if let Some(classes) = case.made(found) {
+        put_names(case, hierarchy, &classes);
+    }
+}
+
+/// The class that the next word names.
+fn class_of(case: &mut Case<'_>, hierarchy: &Hierarchy) -> Option<u32> {
+    let found = hierarchy.number(case.word().as_bytes());
+    if found.is_none() {
+        case.malformed("no such class");
+    }
+    found
+}
+
+/// The classes that the words name.
+fn classes_named(case: &mut Case<'_>, hierarchy: &Hierarchy) -> Vec<u32> {
+    let mut classes = Vec::new(case.alloc());
+    for name in case.rest().split_whitespace() {
+        match hierarchy.number(name.as_bytes()) {
+            Some(class) => case.add(&mut classes, class),
+            None => case.malformed("no such class"),
         }
-        text.push_str(shown(&hierarchy.record(*class).name))?;
     }
-    Ok(text)
+    classes
 }
 
-fn number_of(hierarchy: &Hierarchy, name: &str) -> Result<u32, CaseError> {
-    Ok(hierarchy.number(name.as_bytes()).ok_or("no such class")?)
-}
-
-fn numbers_of(
-    alloc: Global,
-    hierarchy: &Hierarchy,
-    names: &[String],
-) -> Result<Vec<u32>, CaseError> {
-    let mut numbers = Vec::new(alloc);
-    for name in names {
-        numbers.push(number_of(hierarchy, name.as_str())?)?;
+/// The name of the direct superclass.
+fn above(hierarchy: &Hierarchy, class: u32) -> &str {
+    match hierarchy.superclass(class) {
+        Some(above) => shown(&hierarchy.record(above).name),
+        None => "nothing",
     }
-    Ok(numbers)
 }
 
 /// The number of the class, its direct superclass and its origin.
-fn class_shown(alloc: Global, hierarchy: &Hierarchy, class: u32) -> Result<String, AllocError> {
-    let above = match hierarchy.superclass(class) {
-        Some(above) => shown(&hierarchy.record(above).name),
-        None => "nothing",
-    };
+fn put_class(case: &mut Case<'_>, hierarchy: &Hierarchy, class: u32) {
     if class >= hierarchy.count() {
-        return format!(in alloc; "none");
+        case.put("none");
+        return;
     }
-    let origin = match hierarchy.file(class) {
-        Some(file) => shown(&file.record().name),
-        None => "built in",
-    };
-    format!(in alloc; "{class} {origin} under {above}")
+    case.show(&class);
+    match hierarchy.file(class) {
+        Some(file) => case.put_word(shown(&file.record().name)),
+        None => case.put_word("built in"),
+    }
+    case.put_word("under");
+    case.put_word(above(hierarchy, class));
 }
 
 /// The direct superinterfaces.
-fn interfaces_shown(
-    alloc: Global,
-    hierarchy: &Hierarchy,
-    class: u32,
-) -> Result<String, AllocError> {
-    if class >= hierarchy.count() {
-        return format!(in alloc; "none");
+fn put_interfaces(case: &mut Case<'_>, hierarchy: &Hierarchy, class: u32) {
+    if class < hierarchy.count() {
+        put_names(case, hierarchy, hierarchy.interfaces(class));
+    } else {
+        case.put("none");
     }
-    names_of(alloc, hierarchy, hierarchy.interfaces(class))
+}
+
+/// The classes and interfaces above a class.
+fn put_ancestors(case: &mut Case<'_>, hierarchy: &Hierarchy, class: u32) {
+    let found = hierarchy.ancestors(case.alloc(), class);
+    if let Some(classes) = case.made(found) {
+        put_names(case, hierarchy, classes.as_slice());
+    }
+}
+
+/// The answer to a question about what stands above a class.
+fn tell_above(case: &mut Case<'_>, hierarchy: &Hierarchy, what: &str, class: u32) {
+    let found = match what {
+        "ancestors" => return put_ancestors(case, hierarchy, class),
+        "line" => hierarchy.line(case.alloc(), class),
+        _ => hierarchy.superinterfaces(case.alloc(), class),
+    };
+    put_found(case, hierarchy, found);
 }
 
 /// The answer to a question about a class.
-fn told(alloc: Global, hierarchy: &Hierarchy, what: &str, class: u32) -> Result<String, CaseError> {
-    let found = match what {
-        "ancestors" => {
-            let found = hierarchy.ancestors(alloc, class)?;
-            names_of(alloc, hierarchy, found.as_slice())?
-        }
-        "class" => class_shown(alloc, hierarchy, class)?,
-        "instantiable" => format!(in alloc; "{}", hierarchy.is_instantiable(class))?,
-        "interface" => format!(in alloc; "{}", hierarchy.is_interface(class))?,
-        "interfaces" => interfaces_shown(alloc, hierarchy, class)?,
-        "line" => names_of(alloc, hierarchy, &hierarchy.line(alloc, class)?)?,
-        "superinterfaces" => {
-            names_of(alloc, hierarchy, &hierarchy.superinterfaces(alloc, class)?)?
-        }
-        _ => return Err(CaseError::Malformed("no such question")),
-    };
-    Ok(found)
-}
-
-/// The answer to a question about all classes, or about several.
-fn told_of_all(
-    alloc: Global,
-    hierarchy: &Hierarchy,
-    what: &str,
-    classes: &[u32],
-) -> Result<String, CaseError> {
-    match (what, classes) {
-        ("all", _) => Ok(names_of(alloc, hierarchy, &hierarchy.above_all(alloc, classes)?)?),
-        ("above", [e, d]) => Ok(format!(in alloc; "{}", hierarchy.is_above(*e, *d))?),
-        ("below", [c, d]) => Ok(format!(in alloc; "{}", hierarchy.is_below(*c, *d))?),
-        ("order", _) => Ok(names_of(alloc, hierarchy, hierarchy.supers_first())?),
-        _ => Err(CaseError::Malformed("no such question")),
+fn tell_class(case: &mut Case<'_>, hierarchy: &Hierarchy, what: &str, class: u32) {
+    match what {
+        "class" => put_class(case, hierarchy, class),
+        "instantiable" => case.show(&hierarchy.is_instantiable(class)),
+        "interface" => case.show(&hierarchy.is_interface(class)),
+        "interfaces" => put_interfaces(case, hierarchy, class),
+        _ => tell_above(case, hierarchy, what, class),
     }
 }
 
-pub fn answer(alloc: Global, given: &str, input: &str) -> Result<String, CaseError> {
-    let (question, names) = question_of(input)?;
-    let hierarchy = hierarchy_of(alloc, given, names)?;
-    let words = words_of(alloc, question)?;
-    let [what, words @ ..] = words.as_slice() else {
-        return Err(CaseError::Malformed("a case has a question"));
-    };
-    let classes = numbers_of(alloc, &hierarchy, words)?;
-    match (what.as_str(), classes.as_slice()) {
-        (what @ ("above" | "all" | "below" | "order"), classes) => {
-            told_of_all(alloc, &hierarchy, what, classes)
+/// The classes above all of those that the words name.
+fn put_above_all(case: &mut Case<'_>, hierarchy: &Hierarchy) {
+    let classes = classes_named(case, hierarchy);
+    let found = hierarchy.above_all(case.alloc(), &classes);
+    put_found(case, hierarchy, found);
+}
+
+/// Whether the one class that the next words name stands above the other, or below it.
+fn put_relation(case: &mut Case<'_>, hierarchy: &Hierarchy, is_above: bool) {
+    let one = class_of(case, hierarchy);
+    let other = class_of(case, hierarchy);
+    if let (Some(one), Some(other)) = (one, other) {
+        let holds = if is_above {
+            hierarchy.is_above(one, other)
+        } else {
+            hierarchy.is_below(one, other)
+        };
+        case.show(&holds);
+    }
+}
+
+/// The answer to a question.
+fn tell(case: &mut Case<'_>, hierarchy: &Hierarchy, what: &str) {
+    match what {
+        "above" => put_relation(case, hierarchy, true),
+        "all" => put_above_all(case, hierarchy),
+        "below" => put_relation(case, hierarchy, false),
+        "order" => put_names(case, hierarchy, hierarchy.supers_first()),
+        _ => {
+            if let Some(class) = class_of(case, hierarchy) {
+                tell_class(case, hierarchy, what, class);
+            }
         }
-        (what, [class]) => told(alloc, &hierarchy, what, *class),
-        _ => Err(CaseError::Malformed("no such question")),
+    }
+}
+
+pub fn answer(case: &mut Case<'_>) {
+    if let Some(hierarchy) = hierarchy_of(case) {
+        let what = case.word();
+        tell(case, &hierarchy, what);
     }
 }

@@ -2,7 +2,6 @@
 #![tactic(auto)]
 
 mod counters;
-mod entering;
 mod entries;
 mod frames;
 mod given;
@@ -13,26 +12,28 @@ mod steps;
 mod values;
 mod worlds;
 
-use case_texts::CaseError;
-use std::alloc::Global;
+use case_texts::Case;
 
-/// What the subject answers to the input of a case, and nothing where the subject isn't one of these.
-pub fn answer(
-    alloc: Global,
-    subject: &str,
-    given: &str,
-    input: &str,
-) -> Result<Option<String>, CaseError> {
-    let text = match subject {
-        "counters" => counters::answer(alloc, given, input)?,
-        "entries" => entries::answer(alloc, given, input)?,
-        "frames" => frames::answer(alloc, given, input)?,
-        "heaps" => heaps::answer(alloc, given, input)?,
-        "hierarchies" => hierarchies::answer(alloc, given, input)?,
-        "prices" => prices::answer(alloc, given, input)?,
-        "steps" => steps::answer(alloc, given, input)?,
-        "worlds" => worlds::answer(alloc, given, input)?,
-        _ => return Ok(None),
-    };
-    Ok(Some(text))
+/// Answers the case, where the subject is one of these on runs.
+fn answer_runs(subject: &str, case: &mut Case<'_>) -> bool {
+    match subject {
+        "counters" => counters::answer(case),
+        "entries" => entries::answer(case),
+        "frames" => frames::answer(case),
+        "steps" => steps::answer(case),
+        _ => return false,
+    }
+    true
+}
+
+/// Answers the case, and tells whether the subject is one of these.
+pub fn answer(subject: &str, case: &mut Case<'_>) -> bool {
+    match subject {
+        "heaps" => heaps::answer(case),
+        "hierarchies" => hierarchies::answer(case),
+        "prices" => prices::answer(case),
+        "worlds" => worlds::answer(case),
+        _ => return answer_runs(subject, case),
+    }
+    true
 }

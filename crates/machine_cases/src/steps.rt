@@ -1,13 +1,12 @@
 //! Runs of methods of given classes, step by step to the end: a method, its arguments, the word `in`, and the
 //! classes' names. The answer tells each step that wrapped, how the run ended, and how all stands then.
 
-use crate::entering::{entered, fault_shown};
-use crate::given::{method_name, question_of, world_of};
-use crate::values::word_or_none;
-use case_texts::CaseError;
+use crate::entries::entered;
+use crate::given::{put_method, world_of};
+use crate::values::put_value_or_none;
+use case_texts::Case;
 use cost_model::CostModel;
 use machine::{Event, Stack, State, Status, Stop, Thrown, Value};
-use std::alloc::{AllocError, Global};
 use world::World;
 
 /// How many steps a run has at most, and how much it spends, and how many objects it has.
@@ -45,36 +44,31 @@ fn event_word(event: Event) -> &'static str {
 }
 
 /// Makes a step, where the run is small.
-fn step(alloc: Global, world: &World, state: &mut State) -> Result<Event, CaseError> {
+fn step(case: &mut Case<'_>, world: &World, state: &mut State) -> Option<Event> {
     if state.here.heap.len() >= MOST as usize || state.spent >= u128::from(MOST) {
-        return Err(CaseError::Malformed("a run is too long"));
+        return None;
     }
-    Ok(state.step(alloc, world, &CostModel::counting())?)
+    let event = state.step(case.alloc(), world, &CostModel::counting());
+    case.made(event)
 }
 
-/// Makes all steps, and one more, and adds the word of each that wrapped and of the last.
-fn run(
-    alloc: Global,
-    world: &World,
-    state: &mut State,
-    text: &mut String,
-) -> Result<(), CaseError> {
+/// Whether another step is the same as the last, which is the end of the run.
+fn has_ended(case: &mut Case<'_>, world: &World, state: &mut State, last: Event) -> bool {
+    step(case, world, state) == Some(last) && state.status != Status::Running
+}
+
+/// Makes all steps, adds the word of each that wrapped and of the last, and gives the last.
+fn run(case: &mut Case<'_>, world: &World, state: &mut State) -> Option<Event> {
     for _ in 0..MOST {
-        let event = step(alloc, world, state)?;
-        if event == Event::Went {
-            continue;
-        }
-        text.push_str(event_word(event))?;
-        text.push(' ')?;
-        if event != Event::Wrapped {
-            let again = step(alloc, world, state)?;
-            if again != event || state.status == Status::Running {
-                return Err(CaseError::Malformed("a run goes on behind its end"));
+        let event = step(case, world, state)?;
+        if event != Event::Went {
+            case.put_word(event_word(event));
+            if event != Event::Wrapped {
+                return Some(event);
             }
-            return Ok(());
         }
     }
-    Err(CaseError::Malformed("a run is too long"))
+    None
 }
 
 /// The value on top, of which a long takes two words.
@@ -87,27 +81,33 @@ fn top_of(stack: &Stack<Value>) -> Option<Value> {
 
 /// Where the run stands: the method, the place in its code, the top of the stack, what was spent, and how many
 /// callers wait and objects there are.
-fn standing(alloc: Global, world: &World, state: &State) -> Result<String, AllocError> {
-    let frame = &state.here.frame;
-    let method = method_name(alloc, world, frame.method)?;
-    let top = word_or_none(alloc, top_of(&frame.stack))?;
-    let waiting = state.callers.len();
-    let objects = state.here.heap.len();
-    format!(in alloc;
-        "at {method} {} top {top} spent {} callers {waiting} objects {objects}",
-        frame.pc, state.spent
-    )
+fn put_standing(case: &mut Case<'_>, world: &World, state: &State) {
+    case.put(" at ");
+    put_method(case, world, state.here.frame.method);
+    case.show_word(&state.here.frame.pc);
+    case.put(" top ");
+    put_value_or_none(case, top_of(&state.here.frame.stack));
+    case.put(" spent ");
+    case.show(&state.spent);
+    case.put(" callers ");
+    case.show(&state.callers.len());
+    case.put(" objects ");
+    case.show(&state.here.heap.len());
 }
 
-pub fn answer(alloc: Global, given: &str, input: &str) -> Result<String, CaseError> {
-    let (question, names) = question_of(input)?;
-    let world = world_of(alloc, given, names)?;
-    let mut state = match entered(alloc, &world, given, question)? {
-        Ok(state) => state,
-        Err(fault) => return Ok(fault_shown(alloc, fault)?),
+/// Runs to the end, and tells how all stands then.
+fn tell(case: &mut Case<'_>, world: &World, state: &mut State) {
+    match run(case, world, state) {
+        Some(last) if has_ended(case, world, state, last) => put_standing(case, world, state),
+        _ => case.malformed("a run is too long, or goes on behind its end"),
+    }
+}
+
+pub fn answer(case: &mut Case<'_>) {
+    let Some(world) = world_of(case) else {
+        return;
     };
-    let mut text = String::new(alloc);
-    run(alloc, &world, &mut state, &mut text)?;
-    text.push_str(standing(alloc, &world, &state)?.as_str())?;
-    Ok(text)
+    if let Some(mut state) = entered(case, &world) {
+        tell(case, &world, &mut state);
+    }
 }

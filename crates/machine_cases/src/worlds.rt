@@ -1,34 +1,12 @@
 //! What names mean in a world of given classes: a question, the word `in`, and the classes' names.
 
-use crate::given::{
-    are_few, class_name, classes_of, method_name, question_of, shown, target_of, world_of,
-};
-use case_texts::CaseError;
-use case_texts::texts::words_of;
-use class_hierarchy::WorldFault;
-use class_pool::{Target, Text};
-use std::alloc::{AllocError, Global};
+use crate::given::{class_name, name_of, put_method, shown, target_of, world_of};
+use case_texts::Case;
+use class_pool::Text;
 use world::{MemberId, ResolveFault, World};
 
-fn fault_shown(alloc: Global, fault: &WorldFault) -> Result<String, AllocError> {
-    match fault {
-        WorldFault::Twice { name } => format!(in alloc; "twice {}", shown(name)),
-        WorldFault::MissingSuper { class, name } => {
-            format!(in alloc; "missing super {} {}", shown(class), shown(name))
-        }
-        WorldFault::WrongSuper { class, name } => {
-            format!(in alloc; "wrong super {} {}", shown(class), shown(name))
-        }
-        WorldFault::SuperCycle { name } => format!(in alloc; "super cycle {}", shown(name)),
-        WorldFault::FinalSuper { class, name } => {
-            format!(in alloc; "final super {} {}", shown(class), shown(name))
-        }
-        WorldFault::Memory => format!(in alloc; "memory"),
-    }
-}
-
-fn resolve_fault_word(fault: ResolveFault) -> &'static str {
-    match fault {
+fn put_resolve_fault(case: &mut Case<'_>, fault: ResolveFault) {
+    case.put(match fault {
         ResolveFault::MissingClass => "missing class",
         ResolveFault::MissingMember => "missing member",
         ResolveFault::Ambiguous => "ambiguous",
@@ -36,146 +14,133 @@ fn resolve_fault_word(fault: ResolveFault) -> &'static str {
         ResolveFault::AbstractTarget => "abstract target",
         ResolveFault::NotInstance => "not instance",
         ResolveFault::Memory => "memory",
-    }
-}
-
-/// Whether the classes of these names are a world, or the first fault.
-fn built(alloc: Global, given: &str, names: &str) -> Result<String, CaseError> {
-    let classes = classes_of(alloc, given, names)?;
-    if !are_few(&classes) {
-        return Err(CaseError::Malformed("too many classes"));
-    }
-    match World::build(alloc, classes) {
-        Ok(world) => Ok(format!(in alloc; "world of {}", world.count())?),
-        Err(fault) => Ok(fault_shown(alloc, &fault)?),
-    }
+    });
 }
 
 /// The class that declares the member, or the fault.
-fn found_shown(
-    alloc: Global,
-    world: &World,
-    found: Result<MemberId, ResolveFault>,
-) -> Result<String, AllocError> {
+fn put_found(case: &mut Case<'_>, world: &World, found: Result<MemberId, ResolveFault>) {
     match found {
-        Ok(member) => String::from_str(alloc, class_name(world, member.class)),
-        Err(fault) => String::from_str(alloc, resolve_fault_word(fault)),
+        Ok(member) => case.put(class_name(world, member.class)),
+        Err(fault) => put_resolve_fault(case, fault),
     }
 }
 
-/// The class that declares what the words mean as a method.
-fn method_shown(alloc: Global, world: &World, word: &str) -> Result<String, CaseError> {
-    let Target {
-        class,
-        method,
-        desc,
-    } = target_of(alloc, word)?;
-    let found = world.resolve_method(alloc, &class, &method, &desc);
-    Ok(found_shown(alloc, world, found)?)
-}
-
-/// The class that declares what the words mean as a field, and the field's flags.
-fn field_shown(alloc: Global, world: &World, word: &str) -> Result<String, CaseError> {
-    let Target {
-        class,
-        method,
-        desc,
-    } = target_of(alloc, word)?;
-    match world.resolve_field(alloc, &class, &method, &desc) {
-        Ok(m) => {
-            let flags = world.field_at(m).flags;
-            Ok(format!(in alloc; "{} {flags:x}", class_name(world, m.class))?)
+/// The method that the next word means.
+fn resolved(case: &mut Case<'_>, world: &World) -> Result<MemberId, ResolveFault> {
+    match target_of(case) {
+        Some(target) => {
+            world.resolve_method(case.alloc(), &target.class, &target.method, &target.desc)
         }
-        Err(fault) => Ok(String::from_str(alloc, resolve_fault_word(fault))?),
+        None => Err(ResolveFault::Memory),
     }
 }
 
-/// The method that the word names.
-fn resolved(alloc: Global, world: &World, word: &str) -> Result<MemberId, CaseError> {
-    let Target {
-        class,
-        method,
-        desc,
-    } = target_of(alloc, word)?;
-    match world.resolve_method(alloc, &class, &method, &desc) {
-        Ok(method) => Ok(method),
-        Err(_) => Err(CaseError::Malformed("no such method")),
+/// The class that declares what the next word means as a method.
+fn put_resolved(case: &mut Case<'_>, world: &World) {
+    let found = resolved(case, world);
+    put_found(case, world, found);
+}
+
+/// The class that declares what the next word means as a field, and the field's flags.
+fn put_field(case: &mut Case<'_>, world: &World) {
+    let Some(target) = target_of(case) else {
+        return;
+    };
+    match world.resolve_field(case.alloc(), &target.class, &target.method, &target.desc) {
+        Ok(m) => {
+            case.put(class_name(world, m.class));
+            case.put(" ");
+            case.show_hex(u64::from(world.field_at(m).flags));
+        }
+        Err(fault) => put_resolve_fault(case, fault),
     }
 }
 
 /// What a call of the method runs on an object of this class, by the class's name and by its number.
-fn selected_shown(
-    alloc: Global,
-    world: &World,
-    name: &str,
-    m: MemberId,
-) -> Result<String, CaseError> {
+fn put_selected(case: &mut Case<'_>, world: &World, name: &Text, m: MemberId) {
     if !world.has_method(m) {
-        return Err(CaseError::Malformed("no such method"));
+        case.malformed("no such method");
+        return;
     }
-    let receiver = Text::from_slice(alloc, name.as_bytes())?;
-    let found = world.selected(alloc, &receiver, m);
-    if let Some(class) = world.class(&receiver)
-        && world.selected_by(alloc, m, class) != found
+    let found = world.selected(case.alloc(), name, m);
+    if let Some(class) = world.class(name)
+        && world.selected_by(case.alloc(), m, class) != found
     {
-        return Err(CaseError::Malformed("two answers"));
+        case.malformed("two answers");
     }
-    Ok(found_shown(alloc, world, found)?)
+    put_found(case, world, found);
 }
 
 /// The classes of the methods that a call through this class can run.
-fn targets_shown(
-    alloc: Global,
-    world: &World,
-    name: &str,
-    m: MemberId,
-) -> Result<String, CaseError> {
+fn put_targets(case: &mut Case<'_>, world: &World, name: &Text, m: MemberId) {
     if !world.has_method(m) {
-        return Err(CaseError::Malformed("no such method"));
+        case.malformed("no such method");
+        return;
     }
-    let class = Text::from_slice(alloc, name.as_bytes())?;
-    let targets = match world.targets(alloc, &class, m) {
-        Ok(targets) => targets,
-        Err(fault) => return Ok(String::from_str(alloc, resolve_fault_word(fault))?),
-    };
-    let mut text = format!(in alloc; "{}:", targets.len())?;
+    match world.targets(case.alloc(), name, m) {
+        Ok(targets) => put_classes(case, world, &targets),
+        Err(fault) => put_resolve_fault(case, fault),
+    }
+}
+
+/// How many methods there are, and their classes.
+fn put_classes(case: &mut Case<'_>, world: &World, targets: &[MemberId]) {
+    case.show(&targets.len());
+    case.put(":");
     for target in targets {
-        text.push(' ')?;
-        text.push_str(class_name(world, target.class))?;
+        case.put_word(class_name(world, target.class));
     }
-    Ok(text)
+}
+
+/// The answer to a question about a class and a method.
+fn put_called(case: &mut Case<'_>, world: &World, what: &str) {
+    let name = case.word();
+    let Ok(m) = resolved(case, world) else {
+        case.malformed("no such method");
+        return;
+    };
+    if let Some(name) = name_of(case, name) {
+        match what {
+            "selected" => put_selected(case, world, &name, m),
+            _ => put_targets(case, world, &name, m),
+        }
+    }
 }
 
 /// Whether an object of the one class, or array, is an instance of the other.
-fn instance_shown(
-    alloc: Global,
-    world: &World,
-    name: &str,
-    other: &str,
-) -> Result<String, AllocError> {
-    let class = Text::from_slice(alloc, name.as_bytes())?;
-    let of = Text::from_slice(alloc, other.as_bytes())?;
-    format!(in alloc; "{}", world.instance(&class, &of))
+fn put_instance(case: &mut Case<'_>, world: &World) {
+    let (class, other) = (case.word(), case.word());
+    let class = name_of(case, class);
+    let other = name_of(case, other);
+    if let (Some(class), Some(other)) = (class, other) {
+        case.show(&world.instance(&class, &other));
+    }
 }
 
-/// The method that the class itself declares, with the length of its code.
-fn declared_shown(alloc: Global, world: &World, word: &str) -> Result<String, CaseError> {
-    let target = target_of(alloc, word)?;
-    let class = world.class(&target.class).ok_or("no such class")?;
-    let Some(m) = world.declared_method(class, &target.method, &target.desc) else {
-        return Ok(String::from_str(alloc, "none")?);
-    };
+/// A method with its flags and the length of its code.
+fn put_declared(case: &mut Case<'_>, world: &World, m: MemberId) {
     if !world.has_method(m) {
-        return Err(CaseError::Malformed("no such method"));
+        case.malformed("no such method");
+        return;
     }
-    let name = method_name(alloc, world, m)?;
-    let flags = world.method_at(m).flags;
+    put_method(case, world, m);
+    case.put(" ");
+    case.show_hex(u64::from(world.method_at(m).flags));
     match world.code_at(m) {
         Some(code) => {
-            Ok(format!(in alloc; "{name} {flags:x} in {} bytes", code.bytes.as_slice().len())?)
+            case.put(" in ");
+            case.show(&code.bytes.as_slice().len());
+            case.put(" bytes");
         }
-        None => Ok(format!(in alloc; "{name} {flags:x} without code")?),
+        None => case.put(" without code"),
     }
+}
+
+/// The method that the next word names, where the class itself declares it.
+fn declared(case: &mut Case<'_>, world: &World) -> Option<MemberId> {
+    let target = target_of(case)?;
+    let class = world.class(&target.class)?;
+    world.declared_method(class, &target.method, &target.desc)
 }
 
 /// What objects there are of a class with this number.
@@ -189,85 +154,95 @@ fn kind_of(world: &World, class: u32) -> &'static str {
     }
 }
 
-/// The number of a class, what it is, its superclass, and how many methods it declares.
-fn class_shown(alloc: Global, world: &World, name: &str) -> Result<String, CaseError> {
-    let Some(class) = world.class_named(name.as_bytes()) else {
-        return Ok(String::from_str(alloc, "none")?);
-    };
-    let kind = kind_of(world, class);
-    let above = match world.superclass(class) {
+/// The class that the next word names.
+fn class_of(case: &mut Case<'_>, world: &World) -> Option<u32> {
+    let found = world.class_named(case.word().as_bytes());
+    if found.is_none() {
+        case.put("none");
+    }
+    found
+}
+
+/// The name of the superclass.
+fn above(world: &World, class: u32) -> &str {
+    match world.superclass(class) {
         Some(above) => class_name(world, above),
         None => "nothing",
-    };
-    let origin = match world.file_at(class) {
+    }
+}
+
+/// The name in the file of the class.
+fn origin(world: &World, class: u32) -> &str {
+    match world.file_at(class) {
         Some(file) => shown(&file.record().name),
         None => "built in",
-    };
-    let methods = world.record_at(class).methods.as_slice().len();
-    Ok(format!(in alloc; "{class} {kind} {origin} under {above} with {methods} methods")?)
+    }
+}
+
+/// The number of a class, what it is, its superclass, and how many methods it declares.
+fn put_class(case: &mut Case<'_>, world: &World) {
+    if let Some(class) = class_of(case, world) {
+        case.show(&class);
+        case.put_word(kind_of(world, class));
+        case.put_word(origin(world, class));
+        case.put_word("under");
+        case.put_word(above(world, class));
+        case.put_word("with");
+        case.show_word(&world.record_at(class).methods.as_slice().len());
+        case.put_word("methods");
+    }
 }
 
 /// The class and its superclasses.
-fn line_shown(alloc: Global, world: &World, name: &str) -> Result<String, CaseError> {
-    let class = world.class_named(name.as_bytes()).ok_or("no such class")?;
-    let mut text = String::new(alloc);
-    for at in world.line(alloc, class)? {
-        if !text.is_empty() {
-            text.push(' ')?;
+fn put_line(case: &mut Case<'_>, world: &World) {
+    if let Some(class) = class_of(case, world) {
+        let line = world.line(case.alloc(), class);
+        for at in case.made(line).unwrap_or(Vec::new(case.alloc())) {
+            case.put_word(class_name(world, at));
         }
-        text.push_str(class_name(world, at))?;
     }
-    Ok(text)
 }
 
 /// Whether the one class stands below the other.
-fn below_shown(alloc: Global, world: &World, name: &str, other: &str) -> Result<String, CaseError> {
-    let class = world.class_named(name.as_bytes()).ok_or("no such class")?;
-    let above = world.class_named(other.as_bytes()).ok_or("no such class")?;
-    Ok(format!(in alloc; "{}", world.is_below(class, above))?)
-}
-
-/// The answer to a question about one name.
-fn told(alloc: Global, world: &World, what: &str, name: &str) -> Result<String, CaseError> {
-    match what {
-        "class" => class_shown(alloc, world, name),
-        "declared" => declared_shown(alloc, world, name),
-        "field" => field_shown(alloc, world, name),
-        "line" => line_shown(alloc, world, name),
-        "method" => method_shown(alloc, world, name),
-        _ => Err(CaseError::Malformed("no such question")),
+fn put_below(case: &mut Case<'_>, world: &World) {
+    let class = class_of(case, world);
+    let above = class_of(case, world);
+    if let (Some(class), Some(above)) = (class, above) {
+        case.show(&world.is_below(class, above));
     }
 }
 
-/// The answer to a question about a class and another name.
-fn told_of_two(
-    alloc: Global,
-    world: &World,
-    what: &str,
-    name: &str,
-    other: &str,
-) -> Result<String, CaseError> {
+/// The answer to a question about what a member is.
+fn tell_member(case: &mut Case<'_>, world: &World, what: &str) {
     match what {
-        "below" => below_shown(alloc, world, name, other),
-        "instance" => Ok(instance_shown(alloc, world, name, other)?),
-        "selected" => selected_shown(alloc, world, name, resolved(alloc, world, other)?),
-        "targets" => targets_shown(alloc, world, name, resolved(alloc, world, other)?),
-        _ => Err(CaseError::Malformed("no such question")),
+        "declared" => match declared(case, world) {
+            Some(m) => put_declared(case, world, m),
+            None => case.put("none"),
+        },
+        "field" => put_field(case, world),
+        "method" => put_resolved(case, world),
+        _ => put_called(case, world, what),
     }
 }
 
-pub fn answer(alloc: Global, given: &str, input: &str) -> Result<String, CaseError> {
-    let (question, names) = question_of(input)?;
-    let words = words_of(alloc, question)?;
-    match words.as_slice() {
-        [] | [_] => built(alloc, given, names),
-        [what, name] => {
-            let world = world_of(alloc, given, names)?;
-            told(alloc, &world, what.as_str(), name.as_str())
+/// The answer to a question about the world, or about what a class is.
+fn tell(case: &mut Case<'_>, world: &World, what: &str) {
+    match what {
+        "below" => put_below(case, world),
+        "build" => {
+            case.put("world of ");
+            case.show(&world.count());
         }
-        [what, name, other, ..] => {
-            let world = world_of(alloc, given, names)?;
-            told_of_two(alloc, &world, what.as_str(), name.as_str(), other.as_str())
-        }
+        "class" => put_class(case, world),
+        "instance" => put_instance(case, world),
+        "line" => put_line(case, world),
+        _ => tell_member(case, world, what),
+    }
+}
+
+pub fn answer(case: &mut Case<'_>) {
+    if let Some(world) = world_of(case) {
+        let what = case.word();
+        tell(case, &world, what);
     }
 }

@@ -1,103 +1,107 @@
 //! Sums, differences, products, quotients and comparisons of fractions, which are written `NUM/DEN`.
 
-use case_texts::CaseError;
-use case_texts::texts::words_of;
+use case_texts::Case;
 use q128::{Q, QOp, TooWide};
-use std::alloc::{AllocError, Global};
 use std::cmp::Ordering;
 
-/// A number, in a word.
-fn number_of(word: &str) -> Result<i128, &'static str> {
-    word.parse::<i128>().ok().ok_or("no number")
+/// The fraction of two numbers, which is 0 where the divisor is.
+fn quotient_of(case: &mut Case<'_>, num: i128, den: i128) -> Result<Q, TooWide> {
+    if den == 0 {
+        case.malformed("a denominator is 0");
+        return Ok(Q::whole(0));
+    }
+    Q::new(num, den)
 }
 
 /// The fraction that a word is.
-pub fn fraction_of(word: &str) -> Result<Q, &'static str> {
-    let (num, den) = word.split_once('/').ok_or("a fraction has a `/`")?;
-    let num = number_of(num)?;
-    let den = number_of(den)?;
-    if den == 0 {
-        return Err("a denominator is 0");
+pub fn fraction_of(case: &mut Case<'_>, word: &str) -> Q {
+    let (num, den) = case.halves(word, "/");
+    let (num, den) = (case.parsed(num), case.parsed(den));
+    match quotient_of(case, num, den) {
+        Ok(q) => q,
+        Err(wide) => {
+            case.malformed("a fraction of the input is too wide");
+            wide.a
+        }
     }
-    Q::new(num, den)
-        .ok()
-        .ok_or("a fraction of the input is too wide")
 }
 
-pub fn text_of(alloc: Global, q: Q) -> Result<String, AllocError> {
-    let num = q.numerator();
-    let den = q.denominator();
-    format!(in alloc; "{num}/{den}")
+pub fn put_fraction(case: &mut Case<'_>, q: Q) {
+    case.show_word(&q.numerator());
+    case.put("/");
+    case.show(&q.denominator());
+}
+
+fn put_operation(case: &mut Case<'_>, op: QOp) {
+    match op {
+        QOp::Add => case.put(" add"),
+        QOp::Sub => case.put(" sub"),
+        QOp::Mul => case.put(" mul"),
+        QOp::Div => case.put(" div"),
+    }
 }
 
 /// The fault: its two fractions and its operation.
-pub fn wide_text(alloc: Global, wide: TooWide) -> Result<String, AllocError> {
-    let a = text_of(alloc, wide.a)?;
-    let b = text_of(alloc, wide.b)?;
-    let op = match wide.op {
-        QOp::Add => "add",
-        QOp::Sub => "sub",
-        QOp::Mul => "mul",
-        QOp::Div => "div",
-    };
-    format!(in alloc; "too wide {a} {b} {op}")
+pub fn put_wide(case: &mut Case<'_>, wide: TooWide) {
+    case.put("too wide");
+    put_fraction(case, wide.a);
+    put_fraction(case, wide.b);
+    put_operation(case, wide.op);
 }
 
-fn outcome(alloc: Global, answer: Result<Q, TooWide>) -> Result<String, AllocError> {
-    match answer {
-        Ok(q) => text_of(alloc, q),
-        Err(wide) => wide_text(alloc, wide),
+fn put_outcome(case: &mut Case<'_>, outcome: Result<Q, TooWide>) {
+    match outcome {
+        Ok(q) => put_fraction(case, q),
+        Err(wide) => put_wide(case, wide),
     }
 }
 
-/// The fraction of two numbers.
-fn made(alloc: Global, num: &str, den: &str) -> Result<String, CaseError> {
-    let num = number_of(num)?;
-    let den = number_of(den)?;
-    if den == 0 {
-        return Err(CaseError::Malformed("a denominator is 0"));
-    }
-    Ok(outcome(alloc, Q::new(num, den))?)
-}
-
-fn quotient(alloc: Global, a: Q, b: Q) -> Result<String, CaseError> {
+fn divide(case: &mut Case<'_>, a: Q, b: Q) {
     if b.numerator() == 0 {
-        return Err(CaseError::Malformed("a divisor is 0"));
+        case.malformed("a divisor is 0");
+        return;
     }
-    Ok(outcome(alloc, a.div(b))?)
+    put_outcome(case, a.div(b));
 }
 
-fn order_name(order: Ordering) -> &'static str {
-    match order {
-        Ordering::Less => "less",
-        Ordering::Equal => "equal",
-        Ordering::Greater => "greater",
+fn compare(case: &mut Case<'_>, a: Q, b: Q) {
+    match a.cmp(&b) {
+        Ordering::Less => case.put("less"),
+        Ordering::Equal => case.put("equal"),
+        Ordering::Greater => case.put("greater"),
     }
 }
 
 /// An operation on two fractions.
-fn operation(alloc: Global, name: &str, a: Q, b: Q) -> Result<String, CaseError> {
+fn operate(case: &mut Case<'_>, name: &str, a: Q, b: Q) {
     match name {
-        "add" => Ok(outcome(alloc, a.add(b))?),
-        "sub" => Ok(outcome(alloc, a.sub(b))?),
-        "mul" => Ok(outcome(alloc, a.mul(b))?),
-        "div" => quotient(alloc, a, b),
-        "cmp" => Ok(String::from_str(alloc, order_name(a.cmp(&b)))?),
-        "same" => Ok(format!(in alloc; "{}", a == b)?),
-        _ => Err(CaseError::Malformed("no such operation")),
+        "add" => put_outcome(case, a.add(b)),
+        "cmp" => compare(case, a, b),
+        "div" => divide(case, a, b),
+        "mul" => put_outcome(case, a.mul(b)),
+        "sub" => put_outcome(case, a.sub(b)),
+        _ => case.show(&(a == b)),
     }
 }
 
-pub fn answer(alloc: Global, input: &str) -> Result<String, CaseError> {
-    let words = words_of(alloc, input)?;
-    match words.as_slice() {
-        [_, number] => Ok(text_of(alloc, Q::whole(number_of(number.as_str())?))?),
-        [name, num, den] if name.as_str() == "new" => made(alloc, num.as_str(), den.as_str()),
-        [name, a, b] => {
-            let a = fraction_of(a.as_str())?;
-            let b = fraction_of(b.as_str())?;
-            operation(alloc, name.as_str(), a, b)
+/// An operation on the two fractions that come next.
+fn tell(case: &mut Case<'_>, name: &str) {
+    let (a, b) = (case.word(), case.word());
+    let (a, b) = (fraction_of(case, a), fraction_of(case, b));
+    operate(case, name, a, b);
+}
+
+pub fn answer(case: &mut Case<'_>) {
+    match case.word() {
+        "new" => {
+            let (num, den) = (case.number(), case.number());
+            let outcome = quotient_of(case, num, den);
+            put_outcome(case, outcome);
         }
-        _ => Err(CaseError::Malformed("two or three words")),
+        "whole" => {
+            let number = case.number();
+            put_fraction(case, Q::whole(number));
+        }
+        name => tell(case, name),
     }
 }

@@ -1,163 +1,186 @@
 //! Expressions, sums of rows, what they reach, and where rows hold. A row is its coefficients and its constant, as `1 -1 0`,
 //! rows are parted by commas, multipliers are row numbers with factors, as `1:1/2`, and a point is t and its coordinates.
 
-use crate::fractions::{fraction_of, text_of, wide_text};
-use case_texts::CaseError;
-use case_texts::texts::words_of;
+use crate::fractions::{fraction_of, put_fraction, put_wide};
+use crate::lins::lin_of;
+use case_texts::Case;
 use lin_rows::{Comb, CombFault, Lin, Mults, Point, Row, Sequence, combine, holds, reaches};
-use q128::TooWide;
-use std::alloc::{AllocError, Global};
+use q128::{Q, TooWide};
+use std::alloc::AllocError;
 
-/// The expression of a text.
-fn lin_of(alloc: Global, text: &str) -> Result<Lin, CaseError> {
-    let mut numbers = Vec::new(alloc);
-    for word in words_of(alloc, text.trim())? {
-        numbers.push(word.parse::<i128>()?)?;
-    }
-    let constant = numbers.pop().ok_or("an expression has a constant")?;
-    if numbers.len() > u32::MAX as usize {
-        return Err(CaseError::Malformed("too many coefficients"));
-    }
-    Ok(Lin::new(alloc, numbers.as_slice(), constant)?)
-}
-
-fn rows_of(alloc: Global, text: &str) -> Result<Sequence<Row>, CaseError> {
-    let mut rows = Sequence::new(alloc);
+fn rows_of(case: &mut Case<'_>, text: &str) -> Sequence<Row> {
+    let mut rows = Sequence::new(case.alloc());
     for part in text.split(',') {
-        let lin = lin_of(alloc, part)?;
-        rows.push(Row { lin })?;
+        if let Some(lin) = lin_of(case, part, ' ') {
+            let added = rows.push(Row { lin });
+            case.keep(added);
+        }
     }
-    Ok(rows)
+    rows
 }
 
-fn mults_of(alloc: Global, text: &str) -> Result<Mults, CaseError> {
-    let mut m = Mults::new(alloc);
-    for word in words_of(alloc, text)? {
-        let (row, factor) = word.split_once(':').ok_or("a multiplier has a `:`")?;
-        let row = row.parse::<u32>()?;
-        let factor = fraction_of(factor)?;
-        m.push(row, factor)?;
+fn add_mult(case: &mut Case<'_>, m: &mut Mults, word: &str) {
+    let (row, factor) = case.halves(word, ":");
+    let (row, factor) = (case.parsed(row), fraction_of(case, factor));
+    let added = m.push(row, factor);
+    case.keep(added);
+}
+
+fn mults_of(case: &mut Case<'_>, text: &str) -> Mults {
+    let mut m = Mults::new(case.alloc());
+    for word in text.split_whitespace() {
+        add_mult(case, &mut m, word);
     }
-    Ok(m)
+    m
+}
+
+/// The fractions that words are.
+fn fractions_of(case: &mut Case<'_>, text: &str) -> Vec<Q> {
+    let mut fractions = Vec::new(case.alloc());
+    for word in text.split_whitespace() {
+        let fraction = fraction_of(case, word);
+        case.add(&mut fractions, fraction);
+    }
+    fractions
 }
 
 /// The point or ray of a text.
-fn point_of(alloc: Global, text: &str) -> Result<Point, CaseError> {
-    let mut numbers = Vec::new(alloc);
-    for word in words_of(alloc, text)? {
-        let number = fraction_of(word.as_str())?;
-        numbers.push(number)?;
+fn point_of(case: &mut Case<'_>, text: &str) -> Point {
+    let (t, v) = text.split_once(' ').unwrap_or((text, ""));
+    Point {
+        t: fraction_of(case, t),
+        v: Sequence::from(fractions_of(case, v)),
     }
-    let (t, v) = numbers.as_slice().split_first().ok_or("a point has a t")?;
-    Ok(Point {
-        t: *t,
-        v: Sequence::from(Vec::from_slice(alloc, v)?),
-    })
 }
 
-/// The length, the coefficient of a variable and the constant of a copy of an expression.
-fn lin_text(alloc: Global, text: &str) -> Result<String, CaseError> {
-    let (lin, v) = text
-        .split_once(" at ")
-        .ok_or("an expression has an ` at `")?;
-    let lin = lin_of(alloc, lin)?.clone()?;
-    let listed = lin.coefficients().len();
-    let coefficient = lin.get(v.parse::<u32>()?);
-    Ok(format!(in alloc;
-        "{} {} {} {coefficient} {}",
-        lin.len(),
-        listed,
-        lin.is_empty(),
-        lin.constant()
-    )?)
+/// The length, the coefficient of a variable and the constant.
+fn put_lin(case: &mut Case<'_>, lin: &Lin, v: u32) {
+    case.show(&lin.len());
+    case.show_word(&lin.coefficients().len());
+    case.show_word(&lin.is_empty());
+    case.show_word(&lin.get(v));
+    case.show_word(&lin.constant());
+}
+
+/// What a copy of an expression is, and a variable in it.
+fn tell_lin(case: &mut Case<'_>) {
+    let lin = case.until(" at ");
+    let v = case.number();
+    if let Some(lin) = lin_of(case, lin, ' ')
+        && let Ok(copy) = lin.clone()
+    {
+        put_lin(case, &copy, v);
+    }
 }
 
 /// A sum: its coefficients, one past its places too, and its constant.
-fn comb_text(alloc: Global, sum: &Comb) -> Result<String, AllocError> {
-    let mut text = String::new(alloc);
+fn put_comb(case: &mut Case<'_>, sum: &Comb) {
     for v in 0..sum.len() {
-        text.push_str(text_of(alloc, sum.get(v))?.as_str())?;
-        text.push(' ')?;
+        put_fraction(case, sum.get(v));
     }
-    let past = text_of(alloc, sum.get(sum.len()))?;
-    let constant = text_of(alloc, sum.constant())?;
-    text.push_str(format!(in alloc; "{past} {constant} {}", sum.is_empty())?.as_str())?;
-    Ok(text)
+    put_fraction(case, sum.get(sum.len()));
+    put_fraction(case, sum.constant());
+    case.show_word(&sum.is_empty());
 }
 
-fn sum_text(alloc: Global, rows: &Sequence<Row>, m: &Mults) -> Result<String, CaseError> {
+fn put_sum(case: &mut Case<'_>, rows: &Sequence<Row>, m: &Mults) {
     if !m.are_rows_of(rows.len()) {
-        return Err(CaseError::Malformed("a number is no row"));
+        case.malformed("a number is no row");
+        return;
     }
-    match combine(alloc, rows.as_slice(), m) {
-        Ok(sum) => Ok(comb_text(alloc, &sum)?),
-        Err(CombFault::TooWide(wide)) => Ok(wide_text(alloc, wide)?),
-        Err(CombFault::Memory) => Err(CaseError::Malformed("no memory for a sum")),
+    match combine(case.alloc(), rows.as_slice(), m) {
+        Ok(sum) => put_comb(case, &sum),
+        Err(CombFault::TooWide(wide)) => put_wide(case, wide),
+        Err(CombFault::Memory) => case.keep(Err(AllocError)),
     }
+}
+
+fn tell_sum(case: &mut Case<'_>) {
+    let rows = case.until(" by ");
+    let rows = rows_of(case, rows);
+    let m = case.rest();
+    let m = mults_of(case, m);
+    put_sum(case, &rows, &m);
 }
 
 /// Yes or no, or the fault.
-fn verdict(alloc: Global, answer: Result<bool, TooWide>) -> Result<String, AllocError> {
-    match answer {
-        Ok(yes) => format!(in alloc; "{yes}"),
-        Err(wide) => wide_text(alloc, wide),
+fn put_verdict(case: &mut Case<'_>, verdict: Result<bool, TooWide>) {
+    match verdict {
+        Ok(yes) => case.show(&yes),
+        Err(wide) => put_wide(case, wide),
     }
 }
 
 /// Whether the multipliers reach the goal, with a scratch of three places.
-fn reached(
-    alloc: Global,
+fn put_reached(
+    case: &mut Case<'_>,
     rows: &Sequence<Row>,
     m: &Mults,
     goal: &Row,
-) -> Result<String, CaseError> {
-    let mut scratch = Comb::room(alloc, 3)?;
+    scratch: &mut Comb,
+) {
     if rows.is_empty()
         || !m.are_rows_of(rows.len())
         || !scratch.has_room(rows.as_slice())
         || goal.lin.len() > scratch.len()
     {
-        return Err(CaseError::Malformed("a number is no row, or there is no room"));
+        case.malformed("a number is no row, or there is no room");
+        return;
     }
-    let first = reaches(rows.as_slice(), m, goal, &mut scratch);
-    let again = reaches(rows.as_slice(), m, goal, &mut scratch);
+    let first = reaches(rows.as_slice(), m, goal, scratch);
+    let again = reaches(rows.as_slice(), m, goal, scratch);
     if first != again || scratch.len() != 3 {
-        return Err(CaseError::Malformed("the scratch was changed"));
+        case.malformed("the scratch was changed");
     }
-    Ok(verdict(alloc, first)?)
+    put_verdict(case, first);
 }
 
-fn reached_text(alloc: Global, text: &str) -> Result<String, CaseError> {
-    let (rows, rest) = text.split_once(" by ").ok_or("rows have a ` by `")?;
-    let (m, goal) = rest.split_once(" to ").ok_or("multipliers have a ` to `")?;
-    let rows = rows_of(alloc, rows)?.clone()?;
-    let m = mults_of(alloc, m)?.clone()?;
-    let goal = Row {
-        lin: lin_of(alloc, goal)?,
-    };
-    reached(alloc, &rows, &m, &goal)
+/// Asks it of copies.
+fn tell_reached_of(case: &mut Case<'_>, rows: &Sequence<Row>, m: &Mults, goal: &Row) {
+    let scratch = Comb::room(case.alloc(), 3);
+    let rows: Result<_, _> = rows.clone();
+    let m: Result<_, _> = m.clone();
+    if let (Ok(rows), Ok(m), Ok(mut scratch)) = (rows, m, scratch) {
+        put_reached(case, &rows, &m, goal, &mut scratch);
+    }
 }
 
-fn held_text(alloc: Global, text: &str) -> Result<String, CaseError> {
-    let (row, point) = text.split_once(" at ").ok_or("a row has an ` at `")?;
-    let row = Row {
-        lin: lin_of(alloc, row)?,
-    };
-    let row = row.clone()?;
-    let point = point_of(alloc, point)?.clone()?;
-    Ok(verdict(alloc, holds(&row, &point))?)
+fn tell_reached(case: &mut Case<'_>) {
+    let rows = case.until(" by ");
+    let rows = rows_of(case, rows);
+    let m = case.until(" to ");
+    let m = mults_of(case, m);
+    let goal = case.rest();
+    if let Some(lin) = lin_of(case, goal, ' ') {
+        tell_reached_of(case, &rows, &m, &Row { lin });
+    }
 }
 
-pub fn answer(alloc: Global, input: &str) -> Result<String, CaseError> {
-    let (name, text) = input.split_once(' ').ok_or("a case has an operation")?;
-    match name {
-        "lin" => lin_text(alloc, text),
-        "sum" => {
-            let (rows, m) = text.split_once(" by ").ok_or("rows have a ` by `")?;
-            sum_text(alloc, &rows_of(alloc, rows)?, &mults_of(alloc, m)?)
-        }
-        "reaches" => reached_text(alloc, text),
-        "holds" => held_text(alloc, text),
-        _ => Err(CaseError::Malformed("no such operation")),
+/// Whether a copy of the row holds at a copy of the point.
+fn put_held(case: &mut Case<'_>, row: &Row, point: &Point) {
+    let row: Result<_, _> = row.clone();
+    let point: Result<_, _> = point.clone();
+    if let (Ok(row), Ok(point)) = (row, point) {
+        put_verdict(case, holds(&row, &point));
+    }
+}
+
+fn tell_held(case: &mut Case<'_>) {
+    let row = case.until(" at ");
+    let row = lin_of(case, row, ' ');
+    let point = case.rest();
+    let point = point_of(case, point);
+    if let Some(lin) = row {
+        put_held(case, &Row { lin }, &point);
+    }
+}
+
+pub fn answer(case: &mut Case<'_>) {
+    match case.word() {
+        "holds" => tell_held(case),
+        "lin" => tell_lin(case),
+        "reaches" => tell_reached(case),
+        "sum" => tell_sum(case),
+        _ => case.malformed("no such operation"),
     }
 }

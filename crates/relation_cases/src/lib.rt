@@ -1,4 +1,4 @@
-//! What cases on rules and relations are answered, each subject in a module of its own.
+//! What cases on rules and relations are answered.
 #![tactic(auto)]
 
 mod calling;
@@ -6,14 +6,13 @@ mod deep;
 mod rules;
 mod writing;
 
-use case_texts::CaseError;
-use std::alloc::Global;
+use case_texts::Case;
 
-/// What the subject answers to the input of a case, and nothing where the subject isn't one of these.
-pub fn answer(alloc: Global, subject: &str, input: &str) -> Result<Option<String>, CaseError> {
-    let text = match subject {
-        "rules" => rules::answer(alloc, input)?,
-        _ => return Ok(None),
-    };
-    Ok(Some(text))
+/// Answers the case, and tells whether the subject is one of these.
+pub fn answer(subject: &str, case: &mut Case<'_>) -> bool {
+    if subject == "rules" {
+        rules::answer(case);
+        return true;
+    }
+    false
 }

@@ -2,8 +2,8 @@
 
 use crate::calling::Calling;
 use crate::deep::comb;
-use crate::writing::{item_text, rule_of};
-use case_texts::CaseError;
+use crate::writing::{put_item, rule_of};
+use case_texts::Case;
 use class_pool::{Target, Text};
 use relations::{NodeName, RelFault, Relations};
 use rule_terms::{Rule, RulePath, fold, paths};
@@ -12,24 +12,30 @@ use std::alloc::{AllocError, Global};
 // A case has at most so many nodes.
 const MOST_NODES: u32 = 1000;
 
-fn path_text(alloc: Global, path: &RulePath) -> Result<String, AllocError> {
-    let mut text = String::new(alloc);
+fn put_path(case: &mut Case<'_>, path: &RulePath) {
     for item in path.as_slice() {
-        text.push_str(item_text(alloc, item)?.as_str())?;
-        text.push(' ')?;
+        put_item(case, item);
+        case.put(" ");
     }
-    text.push(';')?;
-    Ok(text)
+    case.put(";");
 }
 
 // The ways through a rule, each ended by `;`.
-fn paths_text(alloc: Global, rule: &Rule) -> Result<String, AllocError> {
-    let mut text = String::new(alloc);
-    let ways = paths(alloc, rule)?;
-    for path in &ways {
-        text.push_str(path_text(alloc, path)?.as_str())?;
+fn put_paths(case: &mut Case<'_>, rule: &Rule) {
+    let ways = paths(case.alloc(), rule);
+    if let Some(ways) = case.made(ways) {
+        for path in &ways {
+            put_path(case, path);
+        }
     }
-    Ok(text)
+}
+
+// Whether a rule calls.
+fn put_calls(case: &mut Case<'_>, rule: &Rule) {
+    let calls = fold(case.alloc(), rule, &mut Calling);
+    if let Some(calls) = case.made(calls) {
+        case.show_word(&calls);
+    }
 }
 
 fn name_of(alloc: Global) -> Result<NodeName, AllocError> {
@@ -41,93 +47,102 @@ fn name_of(alloc: Global) -> Result<NodeName, AllocError> {
     Ok(NodeName { target, pc: None })
 }
 
+// Adds a node of these sizes.
+fn add_node(case: &mut Case<'_>, relations: &mut Relations, lengths: Vec<bool>) {
+    if relations.nodes() >= MOST_NODES {
+        case.malformed("too many nodes");
+        return;
+    }
+    let Ok(name) = name_of(case.alloc()) else {
+        return;
+    };
+    match relations.add_node(name, lengths) {
+        Ok(_) => {}
+        Err(RelFault::TooManySizes) => case.malformed("too many sizes"),
+        Err(_) => case.malformed("a node is refused"),
+    }
+}
+
 // A node for each number, of so many sizes.
-fn nodes_of(alloc: Global, text: &str) -> Result<Relations, CaseError> {
-    let mut relations = Relations::new(alloc);
+fn nodes_of(case: &mut Case<'_>, text: &str) -> Relations {
+    let mut relations = Relations::new(case.alloc());
     for word in text.split(',') {
-        let mut lengths = Vec::new(alloc);
-        for _ in 0..word.parse::<u32>()? {
-            lengths.push(false)?;
-        }
-        if relations.nodes() >= MOST_NODES {
-            return Err(CaseError::Malformed("too many nodes"));
-        }
-        if let Err(fault) = relations.add_node(name_of(alloc)?, lengths) {
-            return Err(refused(fault));
+        let count: usize = case.parsed(word);
+        let lengths = vec![in case.alloc(); false; count];
+        if let Some(lengths) = case.made(lengths) {
+            add_node(case, &mut relations, lengths);
         }
     }
-    Ok(relations)
+    relations
 }
 
-// What a fault of a node comes to.
-fn refused(fault: RelFault) -> CaseError {
-    match fault {
-        RelFault::TooManySizes => CaseError::Malformed("too many sizes"),
-        _ => CaseError::Malformed("a node is refused"),
-    }
-}
-
-fn fault_text(outcome: Result<(), RelFault>) -> &'static str {
-    match outcome {
-        Ok(()) => "ok",
-        Err(RelFault::Arity) => "arity",
-        Err(RelFault::Range) => "range",
-        Err(RelFault::TooManySizes) => "sizes",
-        Err(RelFault::TooManyTerms) => "terms",
-        Err(RelFault::Memory) => "memory",
+// Adds a rule to a node, and tells what comes of it.
+fn put_added(case: &mut Case<'_>, relations: &mut Relations, node: u32, rule: Rule) {
+    match relations.add_rule(node, rule) {
+        Ok(()) => case.put_word("ok"),
+        Err(RelFault::Arity) => case.put_word("arity"),
+        Err(RelFault::Range) => case.put_word("range"),
+        Err(RelFault::TooManySizes) => case.put_word("sizes"),
+        Err(RelFault::TooManyTerms) => case.put_word("terms"),
+        Err(RelFault::Memory) => case.put_word("memory"),
     }
 }
 
 // What comes of a rule that is added: the sizes of the nodes, a node and the rule, as `2,1 to 0: s1 .`.
-fn added_text(alloc: Global, text: &str) -> Result<&'static str, CaseError> {
-    let (sizes, rest) = text.split_once(" to ").ok_or("nodes are parted by ` to `")?;
-    let (node, rule) = rest.split_once(": ").ok_or("a node is parted by `: `")?;
-    let rule = rule_of(alloc, rule)?;
-    let node = node.parse::<u32>()?;
-    let mut relations = nodes_of(alloc, sizes)?;
-    Ok(fault_text(relations.add_rule(node, rule)))
+fn tell_added(case: &mut Case<'_>) {
+    let sizes = case.until(" to ");
+    let mut relations = nodes_of(case, sizes);
+    let node = case.until(": ");
+    let node = case.parsed(node);
+    if let Some(rule) = rule_of(case) {
+        put_added(case, &mut relations, node, rule);
+    }
 }
 
-// What comes of a node with so many sizes.
-fn sized_text(alloc: Global, text: &str) -> Result<String, CaseError> {
-    let relations = nodes_of(alloc, text)?;
-    let mut names = 0usize;
-    let mut marks = 0usize;
-    let mut rules = 0usize;
+// What comes of nodes with so many sizes.
+fn tell_sized(case: &mut Case<'_>) {
+    let sizes = case.rest();
+    let relations = nodes_of(case, sizes);
+    let (mut names, mut marks, mut rules) = (0usize, 0usize, 0usize);
     for node in 0..relations.nodes() {
         names = names.wrapping_add(relations.name(node).target.class.as_slice().len());
         marks = marks.wrapping_add(relations.lengths(node).len());
         rules = rules.wrapping_add(relations.rules(node).len());
     }
-    Ok(format!(in alloc; "{names} {marks} {rules}")?)
+    case.show_word(&names);
+    case.show_word(&marks);
+    case.show_word(&rules);
 }
 
 // What comes of a long rule with many ends: whether it calls, and of adding it.
-fn long_text(alloc: Global, text: &str, is_first: bool) -> Result<String, CaseError> {
-    let (items, ends) = text.split_once(' ').ok_or("two numbers")?;
-    let rule = comb(alloc, items.parse::<u32>()?, ends.parse::<u32>()?, is_first)?;
-    let mut calling = Calling;
-    let calls = fold(alloc, &rule, &mut calling)?;
-    let mut relations = nodes_of(alloc, "0")?;
-    let outcome = fault_text(relations.add_rule(0, rule));
-    Ok(format!(in alloc; "{calls} {outcome}")?)
+fn tell_long(case: &mut Case<'_>, is_first: bool) {
+    let (items, ends) = (case.number(), case.number());
+    let rule = comb(case.alloc(), items, ends, is_first);
+    if let Some(rule) = case.made(rule) {
+        put_calls(case, &rule);
+        let mut relations = nodes_of(case, "0");
+        put_added(case, &mut relations, 0, rule);
+    }
 }
 
-/// What a case is answered.
-pub(crate) fn answer(alloc: Global, input: &str) -> Result<String, CaseError> {
-    let (word, text) = input.split_once(' ').ok_or("a case has a word")?;
+// What a rule is, by its ways or its calls.
+fn tell(case: &mut Case<'_>, word: &str) {
+    let Some(rule) = rule_of(case) else {
+        return;
+    };
     match word {
-        "paths" => Ok(paths_text(alloc, &rule_of(alloc, text)?)?),
-        "calls" => {
-            let rule = rule_of(alloc, text)?;
-            let mut calling = Calling;
-            let calls = fold(alloc, &rule, &mut calling)?;
-            Ok(format!(in alloc; "{calls}")?)
-        }
-        "add" => Ok(format!(in alloc; "{}", added_text(alloc, text)?)?),
-        "nodes" => sized_text(alloc, text),
-        "long" => long_text(alloc, text, false),
-        "long_first" => long_text(alloc, text, true),
-        _ => Err(CaseError::Malformed("no such word")),
+        "paths" => put_paths(case, &rule),
+        _ => put_calls(case, &rule),
+    }
+}
+
+/// Answers the case.
+pub(crate) fn answer(case: &mut Case<'_>) {
+    match case.word() {
+        "add" => tell_added(case),
+        "long" => tell_long(case, false),
+        "long_first" => tell_long(case, true),
+        "nodes" => tell_sized(case),
+        word => tell(case, word),
     }
 }

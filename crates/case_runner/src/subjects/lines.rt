@@ -1,45 +1,59 @@
 //! What is appended to a line of a report: parts, with ` | ` between each two.
 
-use case_texts::CaseError;
-use case_texts::texts::{bytes_of, text_of};
+use case_texts::Case;
+use case_texts::texts::{bytes_of, put_text};
 use class_pool::{Target, Text};
-use std::alloc::Global;
 use text_out::Line;
 
-fn name_of(alloc: Global, digits: &str) -> Result<Text, CaseError> {
-    let bytes = bytes_of(alloc, digits)?;
-    Ok(Text::from_slice(alloc, bytes.as_slice())?)
+/// The name that hexadecimal digits are.
+fn name_of(case: &mut Case<'_>, digits: &str) -> Option<Text> {
+    let bytes = bytes_of(case, digits);
+    let name = Text::from_slice(case.alloc(), bytes.as_slice());
+    case.made(name)
 }
 
-/// A target of three names in hexadecimal digits, with a `,` between each two.
-fn target_of(alloc: Global, parts: &str) -> Result<Target, CaseError> {
-    let (class, rest) = parts.split_once(',').ok_or("a target has three parts")?;
-    let (method, desc) = rest.split_once(',').ok_or("a target has three parts")?;
-    Ok(Target {
-        class: name_of(alloc, class)?,
-        method: name_of(alloc, method)?,
-        desc: name_of(alloc, desc)?,
+/// A target of three names, with a `,` between each two.
+fn target_of(case: &mut Case<'_>) -> Option<Target> {
+    let (class, method, desc) = (case.until(","), case.until(","), case.rest());
+    Some(Target {
+        class: name_of(case, class)?,
+        method: name_of(case, method)?,
+        desc: name_of(case, desc)?,
     })
 }
 
-/// Appends a part: `push TEXT`, `number N`, `natural N`, `name BYTES` or `target BYTES,BYTES,BYTES`.
-fn append(alloc: Global, line: &mut Line, part: &str) -> Result<(), CaseError> {
-    let (what, text) = part.trim().split_once(' ').unwrap_or((part.trim(), ""));
-    match what {
-        "push" => line.push(text)?,
-        "number" => line.number(text.parse::<i128>()?)?,
-        "natural" => line.natural(text.parse::<u128>()?)?,
-        "name" => line.name(&name_of(alloc, text)?)?,
-        "target" => line.target(&target_of(alloc, text)?)?,
-        _ => return Err(CaseError::Malformed("no such part")),
+fn append_name(case: &mut Case<'_>, line: &mut Line) {
+    let digits = case.rest();
+    if let Some(name) = name_of(case, digits) {
+        let appended = line.name(&name);
+        case.keep(appended);
     }
-    Ok(())
 }
 
-pub fn answer(alloc: Global, _given: &str, input: &str) -> Result<String, CaseError> {
-    let mut line = Line::new(alloc);
-    for part in input.split('|') {
-        append(alloc, &mut line, part)?;
+fn append_target(case: &mut Case<'_>, line: &mut Line) {
+    if let Some(target) = target_of(case) {
+        let appended = line.target(&target);
+        case.keep(appended);
     }
-    Ok(text_of(alloc, line.bytes())?)
+}
+
+/// Appends a part: `push TEXT`, `number N`, `natural N`, `name BYTES` or `target BYTES,BYTES,BYTES`.
+fn append(case: &mut Case<'_>, line: &mut Line) {
+    let appended = match case.word() {
+        "name" => return append_name(case, line),
+        "natural" => line.natural(case.number()),
+        "number" => line.number(case.number()),
+        "push" => line.push(case.rest()),
+        _ => return append_target(case, line),
+    };
+    case.keep(appended);
+}
+
+pub fn answer(case: &mut Case<'_>) {
+    let mut line = Line::new(case.alloc());
+    for part in case.rest().split('|') {
+        case.turn_to(part.trim());
+        append(case, &mut line);
+    }
+    put_text(case, line.bytes());
 }

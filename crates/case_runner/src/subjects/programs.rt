@@ -2,43 +2,55 @@
 //! class's name.
 
 use analyser::{costa, exit_code};
-use case_texts::CaseError;
+use case_texts::Case;
 use case_texts::assembler::assembled;
-use case_texts::texts::{text_of, words_of};
+use case_texts::texts::{put_text, words_of};
 use class_pool::{Bytes, Sequence, Text};
 use ports::{MemoryShelf, MemorySink};
-use std::alloc::Global;
+
+/// Adds a file.
+pub fn add_file(case: &mut Case<'_>, files: &mut Vec<(Text, Bytes)>, path: &str, bytes: Vec<u8>) {
+    let path = Text::from_slice(case.alloc(), path.as_bytes());
+    if let Some(path) = case.made(path) {
+        case.add(files, (path, Sequence::from(bytes)));
+    }
+}
 
 /// A shelf with the files of these classes, which are parted by empty lines.
-pub fn shelf_with(alloc: Global, classes: &str) -> Result<MemoryShelf, CaseError> {
-    let mut files = Vec::new(alloc);
+pub fn shelf_with(case: &mut Case<'_>, classes: &str) -> MemoryShelf {
+    let mut files = Vec::new(case.alloc());
     for text in classes.split("\n\n") {
-        let name = text.split(' ').nth(1).ok_or("a class has a name")?;
-        let file: Bytes = Sequence::from(assembled(alloc, text)?);
-        files.push((Text::from_slice(alloc, name.as_bytes())?, file))?;
+        let file = assembled(case, text);
+        let name = text.split(' ').nth(1).unwrap_or("");
+        add_file(case, &mut files, name, file);
     }
-    Ok(MemoryShelf::new(alloc, files, Vec::new(alloc)))
+    MemoryShelf::new(case.alloc(), files, Vec::new(case.alloc()))
 }
 
-/// The exit status and the report on these words. A report that doesn't end its line has a `|` behind it.
-pub fn reported(
-    alloc: Global,
-    words: &[String],
-    shelf: &mut MemoryShelf,
-    mut out: MemorySink,
-) -> Result<String, CaseError> {
-    let status = costa(alloc, words, shelf, &mut out);
-    let text = text_of(alloc, out.bytes())?;
-    let code = exit_code(&status);
-    match text.as_str().strip_suffix('\n') {
-        Some(line) => Ok(format!(in alloc; "{code} {line}")?),
-        None => Ok(format!(in alloc; "{code} {}|", text.as_str())?),
+/// A report. One that doesn't end its line has a `|` behind it.
+fn put_report(case: &mut Case<'_>, report: &[u8]) {
+    match report {
+        [line @ .., b'\n'] => put_text(case, line),
+        _ => {
+            put_text(case, report);
+            case.put("|");
+        }
     }
 }
 
-pub fn answer(alloc: Global, given: &str, input: &str) -> Result<String, CaseError> {
-    let words = words_of(alloc, input)?;
-    let mut shelf = shelf_with(alloc, given)?;
-    let out = MemorySink::new(alloc, Vec::new(alloc));
-    reported(alloc, words.as_slice(), &mut shelf, out)
+/// The exit status and the report on these words.
+pub fn tell(case: &mut Case<'_>, words: &[String], shelf: &mut MemoryShelf, mut out: MemorySink) {
+    let status = costa(case.alloc(), words, shelf, &mut out);
+    case.show(&exit_code(&status));
+    case.put(" ");
+    put_report(case, out.bytes());
+}
+
+pub fn answer(case: &mut Case<'_>) {
+    let line = case.rest();
+    let words = words_of(case, line);
+    let classes = case.given();
+    let mut shelf = shelf_with(case, classes);
+    let out = MemorySink::new(case.alloc(), Vec::new(case.alloc()));
+    tell(case, &words, &mut shelf, out);
 }

@@ -1,33 +1,35 @@
 //! What a sink in memory takes, and what it then counts.
 
-use case_texts::CaseError;
-use case_texts::texts::text_of;
+use case_texts::Case;
+use case_texts::texts::put_text;
 use ports::{MemorySink, Put, Sink};
-use std::alloc::{AllocError, Global};
 
 /// The calls that fail, each as its number, a `:` and how many bytes it takes.
-fn fails_of(alloc: Global, text: &str) -> Result<Vec<(u64, u32)>, CaseError> {
-    let mut fails = Vec::new(alloc);
+fn fails_of(case: &mut Case<'_>, text: &str) -> Vec<(u64, u32)> {
+    let mut fails = Vec::new(case.alloc());
     for word in text.split_whitespace() {
-        let (call, taken) = word.split_once(':').ok_or("a call has a `:`")?;
-        fails.push((call.parse::<u64>()?, taken.parse::<u32>()?))?;
+        let (call, taken) = case.halves(word, ":");
+        let fail = (case.parsed(call), case.parsed(taken));
+        case.add(&mut fails, fail);
     }
-    Ok(fails)
+    fails
 }
 
 /// The input is the calls that fail, a `;`, and the pieces that are put. The answer is a word for each call, what the sink
 /// has, and its count of faults.
-pub fn answer(alloc: Global, _given: &str, input: &str) -> Result<String, CaseError> {
-    let (fails, pieces) = input.split_once(';').ok_or("a case has a `;`")?;
-    let mut sink = MemorySink::new(alloc, fails_of(alloc, fails)?);
-    let mut told = String::new(alloc);
-    for piece in pieces.split_whitespace() {
+pub fn answer(case: &mut Case<'_>) {
+    let fails = case.until(";");
+    let fails = fails_of(case, fails);
+    let mut sink = MemorySink::new(case.alloc(), fails);
+    for piece in case.rest().split_whitespace() {
         match sink.put(piece.as_bytes()) {
-            Ok(()) => told.push_str("ok ")?,
-            Err(Put::Failed) => told.push_str("failed ")?,
-            Err(Put::Memory) => return Err(CaseError::from(AllocError)),
+            Ok(()) => case.put("ok "),
+            Err(Put::Failed) => case.put("failed "),
+            Err(Put::Memory) => case.put("no memory "),
         }
     }
-    let text = text_of(alloc, sink.bytes())?;
-    Ok(format!(in alloc; "{told}'{text}' {}", sink.faults())?)
+    case.put("'");
+    put_text(case, sink.bytes());
+    case.put("' ");
+    case.show(&sink.faults());
 }

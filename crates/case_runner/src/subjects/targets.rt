@@ -1,18 +1,19 @@
 //! The method that a word names: its class, its name and its descriptor.
 
-use case_texts::CaseError;
-use case_texts::texts::text_of;
+use case_texts::Case;
+use case_texts::texts::{push_word, put_text};
 use class_pool::Target;
 use cost_words::{Command, WordFault, WordKind, read};
 use descriptors::is_method_text;
 use std::alloc::{AllocError, Global};
 
 /// The parts of a target, with a space between each two.
-pub fn shown_target(alloc: Global, target: &Target) -> Result<String, AllocError> {
-    let class = text_of(alloc, target.class.as_slice())?;
-    let method = text_of(alloc, target.method.as_slice())?;
-    let desc = text_of(alloc, target.desc.as_slice())?;
-    format!(in alloc; "{class} {method} {desc}")
+pub fn put_target(case: &mut Case<'_>, target: &Target) {
+    put_text(case, target.class.as_slice());
+    case.put(" ");
+    put_text(case, target.method.as_slice());
+    case.put(" ");
+    put_text(case, target.desc.as_slice());
 }
 
 fn is_bad_target(fault: &WordFault) -> bool {
@@ -26,41 +27,58 @@ fn is_bad_target(fault: &WordFault) -> bool {
 }
 
 /// What a command says of its target, which is the word.
-fn named_by(alloc: Global, word: &str) -> Result<String, CaseError> {
-    let mut words = Vec::new(alloc);
-    words.push(String::from_str(alloc, "bound")?)?;
-    words.push(String::from_str(alloc, word)?)?;
-    words.push(String::from_str(alloc, "a")?)?;
-    let answer = read(alloc, words.as_slice());
-    match &answer {
-        Ok(Command::Bound { target, .. }) => Ok(shown_target(alloc, target)?),
-        Err(fault) if is_bad_target(fault) => Ok(String::from_str(alloc, "none")?),
-        _ => Err(CaseError::Malformed("another command or fault")),
+fn put_named(case: &mut Case<'_>, word: &str) {
+    let mut words = Vec::new(case.alloc());
+    for word in ["bound", word, "a"] {
+        push_word(case, &mut words, word);
+    }
+    match read(case.alloc(), words.as_slice()) {
+        Ok(Command::Bound { target, .. }) => put_target(case, &target),
+        Err(fault) if is_bad_target(&fault) => case.put("none"),
+        _ => case.malformed("another command or fault"),
     }
 }
 
 /// A target with so many long parameters and an array of so many dimensions, which are no limits of a word.
-fn of_many(alloc: Global, longs: u32, dimensions: u32) -> Result<String, CaseError> {
-    let mut word = String::from_str(alloc, "P.a:(")?;
+fn long_target(alloc: Global, longs: u32, dimensions: u32) -> Result<String, AllocError> {
+    let mut word = Case::new(alloc, "", "");
+    word.put("P.a:(");
     for _ in 0..longs {
-        word.push_str("J")?;
+        word.put("J");
     }
     for _ in 0..dimensions {
-        word.push_str("[")?;
+        word.put("[");
     }
-    word.push_str("I)V")?;
-    let found = named_by(alloc, word.as_str())?;
-    Ok(format!(in alloc; "{} bytes for {}", found.len(), word.len())?)
+    word.put("I)V");
+    word.end()
+}
+
+/// How many bytes the parts of a long target have, and how many it has.
+fn put_lengths(case: &mut Case<'_>, word: &str) {
+    let mut named = Case::new(case.alloc(), "", "");
+    put_named(&mut named, word);
+    if let Ok(parts) = named.end() {
+        case.show(&parts.len());
+        case.put(" bytes for ");
+        case.show(&word.len());
+    }
+}
+
+fn put_long(case: &mut Case<'_>) {
+    let (longs, dimensions) = (case.number(), case.number());
+    if let Ok(word) = long_target(case.alloc(), longs, dimensions) {
+        put_lengths(case, word.as_str());
+    }
 }
 
 /// The word of the input; `many N M` is one of N parameters and M dimensions, and `descriptor D` asks for D alone.
-pub fn answer(alloc: Global, _given: &str, input: &str) -> Result<String, CaseError> {
-    if let Some(numbers) = input.strip_prefix("many ") {
-        let (longs, dimensions) = numbers.split_once(' ').ok_or("two numbers")?;
-        return of_many(alloc, longs.parse()?, dimensions.parse()?);
+pub fn answer(case: &mut Case<'_>) {
+    match case.word() {
+        "descriptor" => {
+            let is_one = is_method_text(case.rest().as_bytes());
+            case.show(&is_one);
+        }
+        "many" => put_long(case),
+        word => put_named(case, word),
     }
-    if let Some(desc) = input.strip_prefix("descriptor ") {
-        return Ok(format!(in alloc; "{}", is_method_text(desc.as_bytes()))?);
-    }
-    named_by(alloc, input)
 }

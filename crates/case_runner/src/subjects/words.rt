@@ -1,42 +1,44 @@
 //! What the words of a command line ask for, or which of them is wrong first.
 
-use crate::subjects::targets::shown_target;
-use case_texts::CaseError;
+use crate::subjects::targets::put_target;
+use case_texts::Case;
 use case_texts::texts::words_of;
+use class_pool::Target;
 use cost_words::{Command, Cost, PathWord, Word, WordFault, WordKind, read};
-use std::alloc::{AllocError, Global};
 
-fn path_shown(alloc: Global, path: &PathWord) -> Result<String, AllocError> {
-    format!(in alloc; " {}@{}", path.path.as_str(), path.index)
+fn put_path(case: &mut Case<'_>, path: &PathWord) {
+    case.put(" ");
+    case.put(path.path.as_str());
+    case.put("@");
+    case.show(&path.index);
 }
 
-fn paths_shown(alloc: Global, paths: &[PathWord]) -> Result<String, AllocError> {
-    let mut text = String::new(alloc);
-    for path in paths {
-        text.push_str(path_shown(alloc, path)?.as_str())?;
-    }
-    Ok(text)
-}
-
-fn cost_shown(alloc: Global, cost: &Cost) -> Result<String, AllocError> {
+/// The name of a command, and its cost.
+fn put_name(case: &mut Case<'_>, name: &str, cost: &Cost) {
+    case.put(name);
     match cost {
-        Cost::Instructions => String::from_str(alloc, " instructions"),
-        Cost::Objects => String::from_str(alloc, " objects"),
-        Cost::Weights(path) => path_shown(alloc, path),
+        Cost::Instructions => case.put(" instructions"),
+        Cost::Objects => case.put(" objects"),
+        Cost::Weights(path) => put_path(case, path),
     }
 }
 
-fn args_shown(alloc: Global, args: &[Word]) -> Result<String, AllocError> {
-    let mut text = String::new(alloc);
+/// A target with arguments, and files.
+fn put_rest(case: &mut Case<'_>, target: &Target, args: &[Word], files: &[PathWord]) {
+    case.put(" ");
+    put_target(case, target);
     for arg in args {
-        text.push_str(" '")?;
-        text.push_str(arg.as_str())?;
-        text.push_str("'")?;
+        case.put(" '");
+        case.put(arg.as_str());
+        case.put("'");
     }
-    Ok(text)
+    case.put(":");
+    for path in files {
+        put_path(case, path);
+    }
 }
 
-fn shown(alloc: Global, command: &Command) -> Result<String, AllocError> {
+fn put_command(case: &mut Case<'_>, command: &Command) {
     match command {
         Command::Bound {
             cost,
@@ -44,10 +46,9 @@ fn shown(alloc: Global, command: &Command) -> Result<String, AllocError> {
             target,
             files,
         } => {
-            let proof = if *proof { " proof" } else { "" };
-            let (cost, target) = (cost_shown(alloc, cost)?, shown_target(alloc, target)?);
-            let files = paths_shown(alloc, files.as_slice())?;
-            format!(in alloc; "bound{cost}{proof} {target}:{files}")
+            put_name(case, "bound", cost);
+            case.put(if *proof { " proof" } else { "" });
+            put_rest(case, target, &[], files.as_slice());
         }
         Command::Check {
             cost,
@@ -55,19 +56,17 @@ fn shown(alloc: Global, command: &Command) -> Result<String, AllocError> {
             target,
             files,
         } => {
-            let (cost, target) = (cost_shown(alloc, cost)?, shown_target(alloc, target)?);
-            let report = path_shown(alloc, report)?;
-            let files = paths_shown(alloc, files.as_slice())?;
-            format!(in alloc; "check{cost}{report} {target}:{files}")
+            put_name(case, "check", cost);
+            put_path(case, report);
+            put_rest(case, target, &[], files.as_slice());
         }
         Command::Relations {
             cost,
             target,
             files,
         } => {
-            let (cost, target) = (cost_shown(alloc, cost)?, shown_target(alloc, target)?);
-            let files = paths_shown(alloc, files.as_slice())?;
-            format!(in alloc; "relations{cost} {target}:{files}")
+            put_name(case, "relations", cost);
+            put_rest(case, target, &[], files.as_slice());
         }
         Command::Run {
             cost,
@@ -76,12 +75,15 @@ fn shown(alloc: Global, command: &Command) -> Result<String, AllocError> {
             args,
             files,
         } => {
-            let (cost, target) = (cost_shown(alloc, cost)?, shown_target(alloc, target)?);
-            let args = args_shown(alloc, args.as_slice())?;
-            let files = paths_shown(alloc, files.as_slice())?;
-            format!(in alloc; "run{cost} {steps} {target}{args}:{files}")
+            put_name(case, "run", cost);
+            case.show_word(steps);
+            put_rest(case, target, args.as_slice(), files.as_slice());
         }
-        Command::Sample { number, methods } => format!(in alloc; "sample {number} {methods}"),
+        Command::Sample { number, methods } => {
+            case.put("sample");
+            case.show_word(number);
+            case.show_word(methods);
+        }
     }
 }
 
@@ -96,13 +98,16 @@ fn kind_of(kind: WordKind) -> &'static str {
     }
 }
 
-pub fn answer(alloc: Global, _given: &str, input: &str) -> Result<String, CaseError> {
-    let words = words_of(alloc, input)?;
-    match read(alloc, words.as_slice()) {
-        Ok(command) => Ok(shown(alloc, &command)?),
+pub fn answer(case: &mut Case<'_>) {
+    let line = case.rest();
+    let words = words_of(case, line);
+    match read(case.alloc(), words.as_slice()) {
+        Ok(command) => put_command(case, &command),
         Err(WordFault::Wrong { kind, index }) => {
-            Ok(format!(in alloc; "{}@{index}", kind_of(kind))?)
+            case.put(kind_of(kind));
+            case.put("@");
+            case.show(&index);
         }
-        Err(WordFault::Memory) => Err(CaseError::from(AllocError)),
+        Err(WordFault::Memory) => case.put("memory"),
     }
 }

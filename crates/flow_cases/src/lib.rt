@@ -28,9 +28,9 @@ fn put_facts(case: &mut Case<'_>, points: u32, solution: &Solution<Slots>)
 /// The facts of the least solution.
 fn put_least(case: &mut Case<'_>, program: &Program) {
     let flow = Marks::of(program);
-    let solution = solve(case.alloc(), &flow);
-    if let Some(solution) = case.made(solution) {
-        put_facts(case, program.points(), &solution);
+    match solve(case.alloc(), &flow) {
+        Ok(solution) => put_facts(case, program.points(), &solution),
+        Err(fault) => case.keep(Err(fault)),
     }
 }
 

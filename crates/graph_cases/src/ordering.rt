@@ -7,13 +7,16 @@ use crate::telling::{put_nest_fault, put_numbers};
 use case_texts::Case;
 use graph_core::Graph;
 use graph_loops::NestedLoops;
+use std::alloc::AllocError;
 
 /// The marks of the nodes that are named.
 fn chosen_of(case: &mut Case<'_>, words: &str, nodes: usize) -> Option<Vec<bool>>
     ensures { IfSome result (λ chosen. length chosen.items ≡ nodes) }
 {
-    let unmarked = vec![in case.alloc(); false; nodes];
-    let mut chosen = case.made(unmarked)?;
+    let Ok(mut chosen) = vec![in case.alloc(); false; nodes] else {
+        case.keep(Err(AllocError));
+        return None;
+    };
     for word in words.split_whitespace() {
         let node: usize = case.parsed(word);
         if node < nodes {
@@ -22,11 +25,7 @@ fn chosen_of(case: &mut Case<'_>, words: &str, nodes: usize) -> Option<Vec<bool>
             case.malformed("a chosen node is a node");
         }
     }
-    if chosen.len() == nodes {
-        Some(chosen)
-    } else {
-        None
-    }
+    Some(chosen)
 }
 
 /// The order of the chosen nodes.

@@ -54,8 +54,8 @@ pub(crate) fn reversed(case: &mut Case<'_>, g: &Graph) {
 
 /// The edges that don't lead to the last node.
 pub(crate) fn without_last(case: &mut Case<'_>, g: &Graph) {
-    let dropped = vec![in case.alloc(); false; g.nodes() as usize];
-    let Some(mut dropped) = case.made(dropped) else {
+    let Ok(mut dropped) = vec![in case.alloc(); false; g.nodes() as usize] else {
+        case.keep(Err(AllocError));
         return;
     };
     if let Some(last) = dropped.last_mut() {

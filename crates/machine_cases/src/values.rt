@@ -12,7 +12,11 @@ pub fn value_of(case: &mut Case<'_>, word: &str) -> Value {
         b'l' => Value::Long(case.parsed(digits)),
         b'r' => Value::Ref(case.parsed(digits)),
         b'n' => Value::Null,
-        _ => Value::Pad,
+        b'p' => Value::Pad,
+        _ => {
+            case.malformed("no value");
+            Value::Pad
+        }
     }
 }
 

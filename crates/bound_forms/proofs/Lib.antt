@@ -1,1 +1,6 @@
-pub mod Places
+pub mod Tables
+pub mod Atoms
+pub mod Trimming
+pub mod Passing
+pub mod Dividing
+pub mod Rising

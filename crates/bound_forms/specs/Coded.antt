@@ -1,11 +1,12 @@
 -- What the program's monomials are.
-use Rattle.std.specs.Prelude.{List, map}
+use Rattle.std.specs.Prelude.{ℕ, List, map}
+use Rattle.bound_terms.specs.declared.bound.Bound.{Bound}
 use Rattle.bound_terms.specs.Bounds.{term_of}
-use Rattle.bound_forms.specs.declared.monomial.Monomial.{Monomial}
-use Rattle.bound_forms.specs.Monomials as monomials
+use Rattle.bound_forms.specs.Monomials.{Monomial, Form}
 
-abbrev pub coded : Monomial → monomials.Monomial
-coded m = record { coefficient = m.coefficient; atoms = map term_of m.atoms.items }
+-- a coefficient and atoms
+abbrev pub coded : ℕ × List Bound → Monomial
+coded m = record { coefficient = m.0; atoms = map term_of m.1 }
 
-abbrev pub coded_form : List Monomial → monomials.Form
+abbrev pub coded_form : List (ℕ × List Bound) → Form
 coded_form p = map coded p

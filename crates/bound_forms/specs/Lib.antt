@@ -3,4 +3,9 @@ pub mod Lowest
 pub mod Maxima
 pub mod Forms
 pub mod Coded
+pub mod Limits
+pub mod Answered
+pub mod Normal
+pub mod Needed
+pub mod Laws
 pub mod inside

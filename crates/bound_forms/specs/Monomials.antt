@@ -1,5 +1,6 @@
--- Sums of monomials in order.
-use Rattle.std.specs.Prelude.{ℕ, zero, suc, ◌+◌, ◌*◌, ◌^◌, min, List, [], ◌∷◌, length, map}
+-- Sums of monomials in order: a map from lists of atoms to coefficients, in the order of its keys.
+use Rattle.std.specs.Prelude.{ℕ, zero, suc, ◌+◌, ◌*◌, List, [], ◌∷◌, length, map}
+use Rattle.std.specs.List.{flat_map}
 use Rattle.std.specs.Cmp.Lexicographic.{slice_cmp}
 use Rattle.std.specs.Ordering.{nat_cmp, ordering_then}
 use Rattle.std.specs.declared.cmp.Ordering.{Ordering}
@@ -42,31 +43,26 @@ atom_order a b = slice_cmp nat_cmp (atom_key a) (atom_key b)
 abbrev pub atoms_order : List Term → List Term → Ordering
 atoms_order xs ys = ordering_then (nat_cmp (length xs) (length ys)) (slice_cmp atom_order xs ys)
 
--- ---- coefficients
--- the least number that no coefficient may be: what is greater counts as it, and so do its sums and its products but those
--- with 0
-abbrev pub past_limit : ℕ
-past_limit = 2 ^ 127
-
-abbrev pub capped : ℕ → ℕ
-capped n = min n past_limit
-
--- ---- sums and products
+-- ---- sums
 -- a monomial put into its place; the coefficients of equal ones are added
 abbrev pub put_by : Ordering → Monomial → Monomial → Form → Form → Form
 put_by Less m n ns behind = m ∷ n ∷ ns
-put_by Equal m n ns behind = record { coefficient = capped (m.coefficient + n.coefficient); atoms = n.atoms } ∷ ns
+put_by Equal m n ns behind = record { coefficient = m.coefficient + n.coefficient; atoms = m.atoms } ∷ ns
 put_by Greater m n ns behind = n ∷ behind
 
 abbrev pub put : Monomial → Form → Form
 put m [] = m ∷ []
 put m (n ∷ ns) = put_by (atoms_order m.atoms n.atoms) m n ns (put m ns)
 
--- the monomials of one form put into another, the first of them first
-abbrev pub form_sum : Form → Form → Form
-form_sum [] q = q
-form_sum (m ∷ p) q = form_sum p (put m q)
+-- several monomials, in any order, put into a form
+abbrev pub gathered : Form → List Monomial → Form
+gathered p [] = p
+gathered p (m ∷ ms) = gathered (put m p) ms
 
+abbrev pub total_form : List Form → Form
+total_form ps = gathered [] (flat_map (λ p. p) ps)
+
+-- ---- products
 -- an atom put into its place
 abbrev pub put_atom_by : Ordering → Term → Term → List Term → List Term → List Term
 put_atom_by Less a b bs behind = a ∷ b ∷ bs
@@ -77,29 +73,33 @@ abbrev pub put_atom : Term → List Term → List Term
 put_atom a [] = a ∷ []
 put_atom a (b ∷ bs) = put_atom_by (atom_order a b) a b bs (put_atom a bs)
 
-abbrev pub atoms_product : List Term → List Term → List Term
-atoms_product [] bs = bs
-atoms_product (a ∷ rest) bs = atoms_product rest (put_atom a bs)
+-- several atoms, in any order, put into a list in order
+abbrev pub atoms_onto : List Term → List Term → List Term
+atoms_onto bs [] = bs
+atoms_onto bs (a ∷ rest) = atoms_onto (put_atom a bs) rest
 
 abbrev pub monomial_product : Monomial → Monomial → Monomial
-monomial_product m n = record { coefficient = capped (m.coefficient * n.coefficient); atoms = atoms_product m.atoms n.atoms }
+monomial_product m n = record { coefficient = m.coefficient * n.coefficient; atoms = atoms_onto m.atoms n.atoms }
 
--- a form multiplied out: the products of one monomial with another form's, and those of several, put into a form
-abbrev pub row_onto : Monomial → Form → Form → Form
-row_onto m [] r = r
-row_onto m (n ∷ q) r = row_onto m q (put (monomial_product m n) r)
-
-abbrev pub product_onto : Form → Form → Form → Form
-product_onto [] q r = r
-product_onto (m ∷ p) q r = product_onto p q (row_onto m q r)
+-- the product of two forms, multiplied out: the products of each monomial of the one with each of the other
+abbrev pub products : Form → Form → List Monomial
+products p q = flat_map (λ m. map (monomial_product m) q) p
 
 abbrev pub form_product : Form → Form → Form
-form_product p q = product_onto p q []
+form_product p q = gathered [] (products p q)
 
 -- ---- one monomial
 abbrev pub constant : ℕ → Form
 constant zero = []
-constant (suc n) = record { coefficient = capped (suc n); atoms = [] } ∷ []
+constant (suc n) = record { coefficient = suc n; atoms = [] } ∷ []
 
 abbrev pub one_atom : Term → Form
 one_atom t = record { coefficient = 1; atoms = t ∷ [] } ∷ []
+
+-- the product of several forms
+abbrev pub product_from : Form → List Form → Form
+product_from p [] = p
+product_from p (q ∷ qs) = product_from (form_product p q) qs
+
+abbrev pub product_form : List Form → Form
+product_form ps = product_from (constant 1) ps

@@ -1,13 +1,20 @@
-//! Forms of bounds, which are sums of monomials: what adds two up and multiplies them out, monomial by monomial.
+//! Normal forms of bounds, which are sums of monomials.
 #![tactic(auto)]
 
 mod copies;
+mod fault;
+mod gathering;
+mod keys;
+pub mod laws;
+mod limits;
 mod monomial;
-mod orders;
 mod products;
-mod sums;
+mod reducing;
+mod totals;
 
 pub use copies::copy;
+pub use fault::BoundFault;
 pub use monomial::Monomial;
 pub use products::form_product;
-pub use sums::put_all;
+pub use reducing::lowest;
+pub use totals::form_total;

@@ -1,5 +1,5 @@
 -- When a goal is small.
-use Rattle.std.specs.Prelude.{◌≡◌, ◌⊎◌, ℕ, ℤ, pos, ◌*ℤ◌, ◌≤ℤ◌, List, All, Option, Some, None, Result, Ok, Err, IfOk, MatchOption, FitsSigned}
+use Rattle.std.specs.Prelude.{◌≡◌, ℤ, pos, ◌*ℤ◌, ◌≤ℤ◌, List, Option, Some, None, Result, Ok, Err, IfOk, MatchOption, FitsSigned}
 use Rattle.std.specs.Int.{w128}
 use Rattle.std.specs.declared.alloc.AllocError.{AllocError}
 use Rattle.std.proofs.Common.{arith, refl, sym, ap, ◌∙◌, subst, inl, inr}
@@ -10,7 +10,6 @@ use Rattle.q128.proofs.Ordered.{at_most_trans}
 use Rattle.lin_rows.specs.Linear.{Linear}
 use Rattle.lin_rows.specs.Proving.{Multipliers}
 use Rattle.lin_rows.specs.Combining.{Combination}
-use Rattle.lin_rows.specs.Transitions.{lin_times}
 use Rattle.small_cert.specs.declared.multiple.Multiple.{Multiple}
 use Rattle.small_cert.specs.declared.multiple.Multiple.TheVariants.{Once, Twice}
 use Rattle.small_cert.specs.Multiples.{times_of}

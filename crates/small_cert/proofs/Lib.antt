@@ -1,3 +1,4 @@
 pub mod Scaling
 pub mod Entailing
 pub mod Proved
+pub mod LeastSums

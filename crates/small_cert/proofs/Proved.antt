@@ -1,6 +1,6 @@
 -- A small row follows from the rows by its multipliers.
-use Rattle.std.specs.Prelude.{◌≡◌, ◌⊎◌, ℕ, zero, suc, ◌<◌, ◌≤◌, ℤ, pos, ◌*ℤ◌, ◌≤ℤ◌, List, [], ◌∷◌, length, map, All, slice_index_or}
-use Rattle.std.proofs.Common.{arith, refl, sym, ap, ◌∙◌, subst, ⊎_elim, inl, inr, get_or}
+use Rattle.std.specs.Prelude.{◌≡◌, ℕ, zero, suc, ◌<◌, ◌≤◌, ℤ, pos, ◌*ℤ◌, ◌≤ℤ◌, List, [], ◌∷◌, length, map, All}
+use Rattle.std.proofs.Common.{arith, refl, sym, subst, ⊎_elim, inl, inr, get_or}
 use Rattle.std.proofs.lemmas.Int.{ints}
 use Rattle.q128.specs.Fraction.{Fraction, whole, IsSame, IsAtMost, IsQuotient, plus, times}
 use Rattle.q128.proofs.Field.{same_refl, same_sym, same_trans, plus-same, times-same, times_plus, times_assoc, times_comm, times-zero, nonneg-same, nonneg-times}
@@ -11,7 +11,7 @@ use Rattle.lin_rows.specs.Transitions.{lin_times}
 use Rattle.lin_rows.specs.Rows.{longest_of}
 use Rattle.lin_rows.proofs.Totals.{sum_is}
 use Rattle.lin_rows.proofs.LongestRows.{longest_room}
-use Rattle.small_sums.specs.Sums.{IsFactor, IsSmallSum}
+use Rattle.small_sums.specs.Sums.{IsFactor}
 use Rattle.small_cert.specs.Small.{IsMultiple, IsSmallBy, AreShared}
 
 scaled_at : (k : ℤ) (cs : List ℤ) (v : ℕ) → get_or (map (λ c. k *ℤ c) cs) v (pos 0) ≡ k *ℤ get_or cs v (pos 0)

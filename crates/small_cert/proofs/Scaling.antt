@@ -1,20 +1,19 @@
 -- Multiples of numbers, where they fit.
-use Rattle.std.specs.Prelude.{◌≡◌, ◌⊎◌, ℕ, ◌+◌, ◌<◌, ◌≤◌, ◌^◌, ℤ, pos, ◌*ℤ◌, List, [], ◌∷◌, ◌++◌, length, map, All, FitsSigned, Option, Some, None, Result, Ok, Err, IfOk, MatchOption}
+use Rattle.std.specs.Prelude.{◌≡◌, ℕ, ◌+◌, ◌<◌, ℤ, pos, ◌*ℤ◌, List, [], ◌∷◌, ◌++◌, length, All, FitsSigned, Option, Some, None, Result, Ok, Err, IfOk, MatchOption}
 use Rattle.std.specs.Int.{w128}
-use Rattle.std.specs.Int.Signed.{mag}
 use Rattle.std.specs.declared.alloc.AllocError.{AllocError}
-use Rattle.std.proofs.Common.{arith, refl, sym, ap, ◌∙◌, subst, get_or, take}
-use Rattle.std.proofs.lemmas.List.{get_or-map, length-map, take_more, take_all, map-append}
-use Rattle.std.proofs.lemmas.List.Elements.{All-push}
+use Rattle.std.proofs.Common.{sym, ap, ◌∙◌, subst, get_or, take}
+use Rattle.std.proofs.lemmas.List.{get_or-map, length-map, take_more, map-append}
 use Rattle.q128.specs.Fraction.{whole}
 use Rattle.q128.specs.Laws.{IsNarrow}
 use Rattle.lin_rows.specs.Linear.{Linear}
 use Rattle.lin_rows.specs.Proving.{Multipliers}
-use Rattle.lin_rows.specs.Combining.{Combination, HasCoefficients}
+use Rattle.lin_rows.specs.Combining.{Combination}
 use Rattle.small_sums.specs.declared.term.Sum.{Sum}
 use Rattle.small_sums.specs.Sums.{IsMatch, IsLeastMatch, HasNoMatch}
 use Rattle.small_sums.specs.Terms.{multipliers_of}
-use Rattle.small_cert.specs.inside.Levels.{scaled_list, expression_of, IsMatchBy, IsLeastMatchBy, HasNoneBy}
+use Rattle.small_cert.specs.Least.{expression_of}
+use Rattle.small_cert.specs.inside.Levels.{scaled_list, IsMatchBy, IsLeastMatchBy, HasNoneBy}
 
 pub fits_narrow : (z : ℤ) → FitsSigned w128 z → IsNarrow z
 fits_narrow z h = h.sfits

@@ -1,4 +1,4 @@
-ghost use Rattle.std.specs.Prelude.{ℤ, ◌<◌, ◌^◌, length, IfOk, MatchOption};
+ghost use Rattle.std.specs.Prelude.{ℤ, ◌<◌, ◌^◌, ◌↔◌, length, IsTrue, IfOk, MatchOption};
 ghost use Rattle.lin_rows.specs.Proving.{Multipliers};
 ghost use Rattle.lin_rows.specs.Rows.{lins};
 ghost use Rattle.small_cert.specs.Multiples.{times_of};
@@ -60,4 +60,11 @@ pub fn small_entails(alloc: Global, rows: &[Row], goal: &Row) -> Result<Option<M
 {
     let index = RowIndex::build(alloc, rows)?;
     entailed(alloc, &index, &goal.lin)
+}
+
+/// Whether the goal is small from the indexed rows.
+pub fn is_small(alloc: Global, index: &RowIndex<'_>, goal: &Lin) -> Result<bool, AllocError>
+    ensures { IfOk result (λ b. IsTrue b ↔ IsSmall (lins index.now) goal.now) }
+{
+    Ok(entailed(alloc, index, goal)?.is_some())
 }

@@ -3,7 +3,10 @@
 
 mod entails;
 pub mod laws;
+mod least;
 mod multiple;
 mod share;
 
-pub use entails::{entailed, small_entails};
+pub use entails::{entailed, is_small, small_entails};
+pub use least::{Least, least_constant};
+pub use multiple::Multiple;

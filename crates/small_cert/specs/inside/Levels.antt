@@ -1,18 +1,16 @@
 -- Sums for a multiple of coefficients.
-use Rattle.std.specs.Prelude.{◌≡◌, ℤ, pos, ◌*ℤ◌, List, map, All}
-use Rattle.q128.specs.Fraction.{Fraction, IsAtMost}
+use Rattle.std.specs.Prelude.{ℤ, ◌*ℤ◌, List, map, All}
+use Rattle.q128.specs.Fraction.{IsAtMost}
 use Rattle.q128.specs.Laws.{IsNarrow}
 use Rattle.lin_rows.specs.Linear.{Linear}
 use Rattle.lin_rows.specs.Proving.{Multipliers}
 use Rattle.lin_rows.specs.Combining.{Combination, HasCoefficients}
 use Rattle.small_sums.specs.Sums.{IsSmallSum}
+use Rattle.small_cert.specs.Least.{expression_of}
 
 -- k times each number
 abbrev pub scaled_list : ℤ → List ℤ → List ℤ
 scaled_list k cs = map (λ c. k *ℤ c) cs
-
-abbrev pub expression_of : List ℤ → Linear
-expression_of cs = record { coefficients = cs; constant = pos 0 }
 
 -- the rows times m have the sum s, with k times the coefficients, which fit
 pub record IsMatchBy (rows : List Linear) (cs : List ℤ) (k : ℤ) (m : Multipliers) (s : Combination) : Type 0 where

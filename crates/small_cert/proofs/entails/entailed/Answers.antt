@@ -1,4 +1,3 @@
-use Rattle.std.proofs.Common.{sym}
 use Rattle.lin_rows.specs.Rows.{lins}
 use Rattle.small_cert.proofs.Entailing.{second_answer}
 use Rattle.small_cert.proofs.entails.entailed.Goals as goal

@@ -1,6 +1,6 @@
-use Rattle.std.specs.Prelude.{◌≡◌, ℤ, ◌*ℤ◌, ◌≤ℤ◌, FitsSigned}
+use Rattle.std.specs.Prelude.{◌≤ℤ◌, FitsSigned}
 use Rattle.std.specs.Int.{w128}
-use Rattle.std.proofs.Common.{arith, rules, sym}
+use Rattle.std.proofs.Common.{arith, rules}
 use Rattle.std.proofs.lemmas.Int.{ints, to_z-of_z}
 use Rattle.lin_rows.specs.Rows.{lins}
 use Rattle.small_sums.specs.Terms.{multipliers_of}

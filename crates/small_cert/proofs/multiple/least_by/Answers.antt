@@ -1,8 +1,7 @@
-use Rattle.std.specs.Prelude.{◌≡◌, ℤ, pos, List, FitsSigned, All}
+use Rattle.std.specs.Prelude.{FitsSigned}
 use Rattle.std.specs.Int.{w128}
-use Rattle.std.proofs.Common.{sym, ap, ◌∙◌, subst, rules}
+use Rattle.std.proofs.Common.{rules}
 use Rattle.std.proofs.lemmas.Int.{to_z-of_z}
-use Rattle.lin_rows.specs.Linear.{Linear}
 use Rattle.lin_rows.specs.Rows.{lins}
 use Rattle.small_cert.specs.Multiples.{times_of}
 use Rattle.small_cert.proofs.Scaling.{least_made}

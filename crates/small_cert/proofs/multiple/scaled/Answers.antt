@@ -1,6 +1,6 @@
-use Rattle.std.specs.Prelude.{◌≡◌, ◌+◌, ◌<◌, ℤ, pos, List, [], ◌∷◌, ◌++◌, length, All, FitsSigned, ◌*ℤ◌}
+use Rattle.std.specs.Prelude.{◌≡◌, ◌+◌, ℤ, pos, List, [], ◌∷◌, ◌++◌, All, FitsSigned}
 use Rattle.std.specs.Int.{w128}
-use Rattle.std.proofs.Common.{arith, rules, sym, ap, ◌∙◌, subst, get_or, take, to_z, of_z}
+use Rattle.std.proofs.Common.{rules, sym, ap, ◌∙◌, subst, get_or, take}
 use Rattle.std.proofs.lemmas.List.{take_all}
 use Rattle.std.proofs.lemmas.List.Elements.{All-push}
 use Rattle.q128.specs.Laws.{IsNarrow}

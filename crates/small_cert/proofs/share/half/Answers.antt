@@ -1,6 +1,6 @@
 use Rattle.std.specs.Prelude.{◌≡◌, pos, Some, Option, Result, IsOk}
 use Rattle.std.specs.Option.{ok_or}
-use Rattle.std.proofs.Common.{refl, rules, sym, ap, ◌∙◌, subst}
+use Rattle.std.proofs.Common.{refl, sym, ap, ◌∙◌, subst}
 use Rattle.q128.specs.Fraction.{Fraction, whole}
 use Rattle.q128.specs.Rule.{new_rule, gcd, greatest_up_to, signed}
 use Rattle.q128.specs.declared.q.TooWide.{TooWide}

@@ -1,0 +1,4 @@
+pub mod Leveled
+pub mod Numbers
+pub mod Falls
+pub mod Measured

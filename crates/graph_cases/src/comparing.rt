@@ -3,6 +3,7 @@
 ghost use Rattle.std.specs.Prelude.{◌<◌, length};
 ghost use Rattle.graph_core.specs.Search.{IsSearch};
 
+use crate::judging::{is_nested, is_ordered};
 use crate::reading::graph_of_bits;
 use crate::telling::{covers, put_cover_fault, put_nest, put_numbers};
 use case_texts::Case;
@@ -86,38 +87,46 @@ fn same_paths(alloc: Global, g: &Graph) -> Result<bool, AllocError>
     Ok(true)
 }
 
-/// Whether both tell the same of a graph, of its first paths only where this is asked.
-fn is_same(alloc: Global, g: &Graph, with_paths: bool) -> bool
+/// Whether first paths, the order of components, of which some bits choose nodes, and how loops lie in one another are
+/// told as the definitions have it.
+fn is_as_defined(alloc: Global, g: &Graph, bits: u64) -> Result<bool, AllocError>
     requires { 0 < length g.now }
 {
-    let same_paths = !with_paths || same_paths(alloc, g).unwrap_or(false);
-    same_paths && same_nest(alloc, g) && same_covers(alloc, g)
+    Ok(same_paths(alloc, g)? && is_ordered(alloc, g, bits)? && is_nested(alloc, g)?)
+}
+
+/// Whether both tell the same of a graph, and all else of it is told as defined, where that is asked.
+fn is_same(alloc: Global, g: &Graph, bits: u64, whole: bool) -> bool
+    requires { 0 < length g.now }
+{
+    let is_defined = !whole || is_as_defined(alloc, g, bits).unwrap_or(false);
+    is_defined && same_nest(alloc, g) && same_covers(alloc, g)
 }
 
 /// Whether other things are told of the graph of these bits.
-fn differs(alloc: Global, nodes: u32, bits: u64, with_paths: bool) -> bool
+fn differs(alloc: Global, nodes: u32, bits: u64, whole: bool) -> bool
     requires { 0 < nodes }
 {
     match graph_of_bits(alloc, nodes, bits) {
-        Ok(g) => !is_same(alloc, &g, with_paths),
+        Ok(g) => !is_same(alloc, &g, next(bits) >> 20, whole),
         Err(_) => true,
     }
 }
 
-/// Of how many of all graphs of so many nodes other loops or covers are told.
+/// Of how many of all graphs of so many nodes other loops or covers are told; of fewer than four nodes all is compared.
 fn count_all(alloc: Global, nodes: u32, graphs: u64) -> u64
     requires { 0 < nodes }
 {
     let mut differ = 0u64;
     for bits in 0..graphs {
-        if differs(alloc, nodes, bits, false) {
+        if differs(alloc, nodes, bits, nodes < 4) {
             differ = differ.wrapping_add(1);
         }
     }
     differ
 }
 
-/// Of how many graphs with edges by chance other loops, covers or paths are told.
+/// Of how many graphs with edges by chance other things are told.
 fn count_by_chance(alloc: Global, nodes: u32, graphs: u64) -> u64
     requires { 0 < nodes }
 {

@@ -3,6 +3,7 @@
 
 mod comparing;
 mod counting;
+mod judging;
 mod ordering;
 mod reading;
 mod telling;

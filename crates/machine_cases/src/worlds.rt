@@ -1,5 +1,7 @@
 //! What names mean in a world of given classes: a question, the word `in`, and the classes' names.
 
+ghost use Rattle.std.specs.Prelude.{◌<◌, length, IfSome};
+
 use crate::given::{class_name, name_of, put_method, shown, target_of, world_of};
 use case_texts::Case;
 use class_pool::Text;
@@ -155,7 +157,9 @@ fn kind_of(world: &World, class: u32) -> &'static str {
 }
 
 /// The class that the next word names.
-fn class_of(case: &mut Case<'_>, world: &World) -> Option<u32> {
+fn class_of(case: &mut Case<'_>, world: &World) -> Option<u32>
+    ensures { IfSome result (λ c. c < length world.now) }
+{
     let found = world.class_named(case.word().as_bytes());
     if found.is_none() {
         case.put("none");
@@ -172,7 +176,9 @@ fn above(world: &World, class: u32) -> &str {
 }
 
 /// The name in the file of the class.
-fn origin(world: &World, class: u32) -> &str {
+fn origin(world: &World, class: u32) -> &str
+    requires { class < length world.now }
+{
     match world.file_at(class) {
         Some(file) => shown(&file.record().name),
         None => "built in",

@@ -32,9 +32,10 @@ fn put_named(case: &mut Case<'_>, word: &str) {
     for word in ["bound", word, "a"] {
         push_word(case, &mut words, word);
     }
-    match read(case.alloc(), words.as_slice()) {
-        Ok(Command::Bound { target, .. }) => put_target(case, &target),
-        Err(fault) if is_bad_target(&fault) => case.put("none"),
+    let answer = read(case.alloc(), words.as_slice());
+    match &answer {
+        Ok(Command::Bound { target, .. }) => put_target(case, target),
+        Err(fault) if is_bad_target(fault) => case.put("none"),
         _ => case.malformed("another command or fault"),
     }
 }

@@ -4,3 +4,4 @@ pub mod Trimming
 pub mod Passing
 pub mod Dividing
 pub mod Rising
+pub mod Fixed

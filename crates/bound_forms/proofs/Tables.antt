@@ -24,7 +24,7 @@ use Rattle.bound_forms.specs.Limits.{most_monomials, past_limit}
 use Rattle.bound_forms.specs.Coded.{coded}
 use Rattle.bound_forms.specs.Answered.{Passes, IsSmall}
 use Rattle.bound_forms.specs.inside.Passing.{HasRoom, Limited}
-use Rattle.bound_forms.specs.inside.Entries.{Key, Scaled, Entry, key_order, IsKeyed, entry_value, entries_values, entry_monomial, entries_form, with_old}
+use Rattle.bound_forms.specs.inside.Entries.{Key, Scaled, Entry, AreKeys, key_order, IsKeyed, entry_value, entries_values, entry_monomial, entries_form, with_old}
 
 -- ---- the order of keys
 slice_cmp-map : {X Y : Type 0} (f : X → Y) (R : Y → Y → Ordering) (xs ys : List X) → slice_cmp (λ x y. R (f x) (f y)) xs ys ≡ slice_cmp R (map f xs) (map f ys)
@@ -36,20 +36,33 @@ slice_cmp-map f R (x ∷ xs) (y ∷ ys) = ap (ordering_then (R (f x) (f y))) (sl
 key_items : List (Vec ℕ) → List (List ℕ)
 key_items ks = map (λ (k : Vec ℕ). k.items) ks
 
+pub by_keys : (ks ls : List (Vec ℕ)) (xs ys : List Bound) → AreKeys ks xs → AreKeys ls ys → slice_cmp (λ (x y : Vec ℕ). slice_cmp nat_cmp x.items y.items) ks ls ≡ slice_cmp atom_order (map term_of xs) (map term_of ys)
+by_keys ks ls xs ys are too =
+    slice_cmp-map (λ (k : Vec ℕ). k.items) (slice_cmp nat_cmp) ks ls
+    ∙ ap (λ zs. slice_cmp (slice_cmp nat_cmp) zs (map (λ (k : Vec ℕ). k.items) ls)) are
+    ∙ ap (λ zs. slice_cmp (slice_cmp nat_cmp) (map atom_key (map term_of xs)) zs) too
+    ∙ sym (slice_cmp-map atom_key (slice_cmp nat_cmp) (map term_of xs) (map term_of ys))
+
+counted : (ks : List (Vec ℕ)) (xs : List Bound) → AreKeys ks xs → length ks ≡ length (map term_of xs)
+counted ks xs are = sym (length-map ks (λ (k : Vec ℕ). k.items)) ∙ ap length are ∙ length-map (map term_of xs) atom_key
+
 pub order_of_keys : (e f : Entry) → IsKeyed e → IsKeyed f → key_order e.0 f.0 ≡ atoms_order (entry_monomial e).atoms (entry_monomial f).atoms
 order_of_keys e f ke kf =
     let a = map term_of e.1.1.items in
     let b = map term_of f.1.1.items in
-    let byKeys : slice_cmp (λ (x y : Vec ℕ). slice_cmp nat_cmp x.items y.items) e.0.1.items f.0.1.items ≡ slice_cmp atom_order a b =
-    slice_cmp-map (λ (k : Vec ℕ). k.items) (slice_cmp nat_cmp) e.0.1.items f.0.1.items
-    ∙ ap (λ ks. slice_cmp (slice_cmp nat_cmp) ks (map (λ (k : Vec ℕ). k.items) f.0.1.items)) ke.keys
-    ∙ ap (λ ks. slice_cmp (slice_cmp nat_cmp) (map atom_key a) ks) kf.keys
-    ∙ sym (slice_cmp-map atom_key (slice_cmp nat_cmp) a b)
-    in
-    let count : (g : Entry) → IsKeyed g → g.0.0 ≡ length (map term_of g.1.1.items) = λ g kg. kg.count ∙ sym (length-map g.0.1.items (λ (k : Vec ℕ). k.items)) ∙ ap length kg.keys ∙ length-map (map term_of g.1.1.items) atom_key in
-    ap (λ o. ordering_then (nat_cmp e.0.0 f.0.0) o) byKeys
-    ∙ ap (λ n. ordering_then (nat_cmp n f.0.0) (slice_cmp atom_order a b)) (count e ke)
-    ∙ ap (λ n. ordering_then (nat_cmp (length a) n) (slice_cmp atom_order a b)) (count f kf)
+    ap (λ o. ordering_then (nat_cmp e.0.0 f.0.0) o) (by_keys e.0.1.items f.0.1.items e.1.1.items f.1.1.items ke.keys kf.keys)
+    ∙ ap (λ n. ordering_then (nat_cmp n f.0.0) (slice_cmp atom_order a b)) (ke.count ∙ counted e.0.1.items e.1.1.items ke.keys)
+    ∙ ap (λ n. ordering_then (nat_cmp (length a) n) (slice_cmp atom_order a b)) (kf.count ∙ counted f.0.1.items f.1.1.items kf.keys)
+
+-- as many keys, and these in order
+pub order_of_as_many : (ks ls : List (Vec ℕ)) (xs ys : List Bound) (o : Ordering) → AreKeys ks xs → AreKeys ls ys → nat_cmp (length ks) (length ls) ≡ Equal → o ≡ slice_cmp (λ (x y : Vec ℕ). slice_cmp nat_cmp x.items y.items) ks ls → o ≡ atoms_order (map term_of xs) (map term_of ys)
+order_of_as_many ks ls xs ys o are too same is =
+    let a = map term_of xs in
+    let b = map term_of ys in
+    is ∙ by_keys ks ls xs ys are too
+    ∙ ap (λ p. ordering_then p (slice_cmp atom_order a b)) (sym same)
+    ∙ ap (λ n. ordering_then (nat_cmp n (length ls)) (slice_cmp atom_order a b)) (counted ks xs are)
+    ∙ ap (λ n. ordering_then (nat_cmp (length a) n) (slice_cmp atom_order a b)) (counted ls ys too)
 
 pub key_order_total : IsTotalOrder key_order
 key_order_total = then_total (on_total (λ (k : Key). k.0) nat_cmp_total) (on_total (λ (k : Key). k.1.items) (lists_total (on_total (λ (x : Vec ℕ). x.items) nat_list_cmp_total)))

@@ -13,7 +13,7 @@ kept_in_front : (d : ℤ) (ds : List ℤ) (c : ℤ) → onto_trimmed d (ds ++ c 
 kept_in_front d [] c = refl
 kept_in_front d (e ∷ ds) c = refl
 
-apart : (a b : ℕ) → (a ≡ b → ⊥) → (a == b) ≡ false
+pub apart : (a b : ℕ) → (a ≡ b → ⊥) → (a == b) ≡ false
 apart a b h = ⊎_elim (λ p. absurd (h p.1)) (λ p. p.0) (eqb_tells a b)
 
 trimmed-end : (cs : List ℤ) (c : ℤ) → (c ≡ pos 0 → ⊥) → trimmed (cs ++ c ∷ []) ≡ cs ++ c ∷ []

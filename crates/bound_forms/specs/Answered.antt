@@ -6,9 +6,9 @@ use Rattle.bound_terms.specs.declared.bound.Bound.{Bound}
 use Rattle.bound_terms.specs.Terms.{Floored}
 use Rattle.bound_forms.specs.declared.fault.BoundFault.{BoundFault}
 use Rattle.bound_forms.specs.declared.fault.BoundFault.TheVariants.{Monomials, Coefficient, Memory}
-use Rattle.bound_forms.specs.Monomials.{Monomial, Form}
+use Rattle.bound_forms.specs.Monomials.{Monomial, Form, form_term}
 use Rattle.bound_forms.specs.Coded.{coded_form}
-use Rattle.bound_forms.specs.Limits.{most_monomials, past_limit}
+use Rattle.bound_forms.specs.Limits.{most_monomials, past_limit, has_many, has_great, Keeps}
 
 -- the form itself keeps both limits; of its atoms nothing is said
 pub record IsSmall (p : Form) : Type 0 where
@@ -25,6 +25,13 @@ Passes Memory p = Unit {0}
 abbrev pub Makes : Result (Vec (ℕ × List Bound)) BoundFault → Form → Type 0
 Makes (Ok f) p = (coded_form f.items ≡ p) × IsSmall p
 Makes (Err e) p = Passes e p
+
+-- the form is made and keeps both limits with its atoms, or passes the one that is answered
+abbrev pub MakesWhole : Result (Vec (ℕ × List Bound)) BoundFault → Form → Type 0
+MakesWhole (Ok f) p = (coded_form f.items ≡ p) × Keeps p
+MakesWhole (Err Monomials) p = has_many (form_term p) ≡ true
+MakesWhole (Err Coefficient) p = has_great (form_term p) ≡ true
+MakesWhole (Err Memory) p = Unit {0}
 
 abbrev pub coded_forms : List (Vec (ℕ × List Bound)) → List Form
 coded_forms fs = map (λ (f : Vec (ℕ × List Bound)). coded_form f.items) fs

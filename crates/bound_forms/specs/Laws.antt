@@ -8,7 +8,7 @@ use Rattle.bound_forms.specs.Normal.{Rising, NotFalling}
 abbrev pub GatheredRise : Type 0
 GatheredRise = (p : Form) (ms : List Monomial) → Rising p → Rising (gathered p ms)
 
--- so sums and products are in order, with no two monomials equal
+-- so sums and products are in order, with no two monomials whose atoms have the same keys
 abbrev pub SumsRise : Type 0
 SumsRise = (ps : List Form) → Rising (total_form ps)
 

@@ -10,8 +10,7 @@ use Rattle.bound_forms.specs.Monomials.{form_term}
 use Rattle.bound_forms.specs.Forms.{form}
 use Rattle.bound_forms.specs.Limits.{has_many, has_great, Keeps}
 
--- a term is the other, or a part of it that stands beside no factor 0. What the form of such a part has too many or too great
--- of, the form of the whole has
+-- a term is the other, or a part of it that stands beside no factor 0
 pub data Needs (u : Term) : Term → Type 0 where
   itself : Needs u u
   in_total : {v : Term} {ts : Terms} → IsPart v ts → Needs u v → Needs u (Total ts)

@@ -38,7 +38,7 @@ pub record IsFlat (ps : List Form) : Type 0 where
   pub needed : (before behind : List Form) (p : Form) → ps ≡ before ++ p ∷ behind → All (λ q. covers q p ≡ false) (before ++ behind)
 
 -- ---- monomials and sums
--- each goes before the next; so no two are equal
+-- each goes before the next; so no two have atoms with the same keys
 abbrev pub Rising : Form → Type 0
 Rising [] = Unit {0}
 Rising (m ∷ []) = Unit {0}

@@ -6,9 +6,9 @@ use std::alloc::{AllocError, AllocFailed};
 /// Why a bound's normal form isn't made.
 #[derive(Clone, Copy, Debug, PartialEq, Eq)]
 pub enum BoundFault {
-    /// The form, or an operand of a maximum in it, has more than 65,536 monomials.
+    /// A form, or an operand of a maximum in it, has more than 65,536 monomials.
     Monomials,
-    /// A coefficient or a divisor of the form is past 2^127 - 1.
+    /// A coefficient or a divisor of a form is past 2^127 - 1.
     Coefficient,
     /// Memory ran out.
     Memory,

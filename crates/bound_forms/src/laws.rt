@@ -3,7 +3,7 @@
 ghost use Rattle.bound_forms.specs.Laws.{GatheredRise, SumsRise, ProductsRise, AtomsStayInOrder};
 
 /// Monomials and atoms are in order where they are put into what is in order; so sums and products are, and no two of their
-/// monomials are equal.
+/// monomials have the same keys.
 pub fn forms_are_in_order()
     ensures gathered { GatheredRise }
     ensures sums { SumsRise }

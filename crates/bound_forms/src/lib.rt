@@ -6,6 +6,7 @@ mod fault;
 mod gathering;
 mod keys;
 pub mod laws;
+mod leaves;
 mod limits;
 mod monomial;
 mod products;
@@ -14,7 +15,4 @@ mod totals;
 
 pub use copies::copy;
 pub use fault::BoundFault;
-pub use monomial::Monomial;
-pub use products::form_product;
 pub use reducing::lowest;
-pub use totals::form_total;

@@ -1,20 +1,21 @@
 ghost use Rattle.std.specs.Prelude.{ℕ, ◌≡◌, ◌<◌, map, [], ◌∷◌, IfOk};
 ghost use Rattle.std.specs.Global.{Vec};
 ghost use Rattle.bound_terms.specs.Bounds.{term_of};
-ghost use Rattle.bound_forms.specs.Monomials.{atom_key, put_atom, atoms_onto};
+ghost use Rattle.bound_forms.specs.Monomials.{atom_key, atoms_order, put_atom, atoms_onto};
 ghost use Rattle.bound_forms.specs.Coded.{coded};
 ghost use Rattle.bound_forms.specs.Limits.{past_limit};
-ghost use Rattle.bound_forms.specs.inside.Entries.{IsKeyed, entry_value};
+ghost use Rattle.bound_forms.specs.inside.Entries.{AreKeys, IsKeyed, entry_value};
 
 use crate::copies::{copy, copy_all};
 use crate::keys::{atom_key, key_place};
 use bound_terms::Bound;
 use std::alloc::{AllocError, Global};
+use std::cmp::Ordering;
 use std::marker::Model;
 
 /// A coefficient within the limit and the atoms that it is times, each with its key.
 #[derive(Drop)]
-pub struct Monomial {
+pub(crate) struct Monomial {
     coefficient: u128,
     keys: Vec<Vec<u8>>,
     atoms: Vec<Bound>,
@@ -50,9 +51,19 @@ fn copy_keys(alloc: Global, keys: &[Vec<u8>]) -> Result<Vec<Vec<u8>>, AllocError
     Ok(copies)
 }
 
+fn keys_of(alloc: Global, atoms: &[Bound]) -> Result<Vec<Vec<u8>>, AllocError>
+    ensures { IfOk result (λ keys. AreKeys keys.items atoms.now) }
+{
+    let mut keys = Vec::new(alloc);
+    for atom in atoms {
+        keys.push(atom_key(alloc, atom)?)?;
+    }
+    Ok(keys)
+}
+
 impl Monomial {
     /// A number alone, below 2^127.
-    pub fn number(alloc: Global, coefficient: u128) -> Monomial
+    pub(crate) fn number(alloc: Global, coefficient: u128) -> Monomial
         requires { coefficient < past_limit }
         ensures { result ≡ (coefficient, []) }
     {
@@ -63,8 +74,8 @@ impl Monomial {
         }
     }
 
-    /// An atom alone, which is a nat, a maximum, a sum of powers or a power. `Err` is want of memory.
-    pub fn of_atom(alloc: Global, atom: Bound) -> Result<Monomial, AllocError>
+    /// An atom alone.
+    pub(crate) fn of_atom(alloc: Global, atom: Bound) -> Result<Monomial, AllocError>
         ensures { IfOk result (λ m. coded m ≡ record { coefficient = 1; atoms = term_of atom ∷ [] }) }
     {
         let mut keys = Vec::new(alloc);
@@ -78,8 +89,44 @@ impl Monomial {
         })
     }
 
+    /// A number, below 2^127, and atoms.
+    pub(crate) fn new(
+        alloc: Global,
+        coefficient: u128,
+        atoms: Vec<Bound>,
+    ) -> Result<Monomial, AllocError>
+        requires { coefficient < past_limit }
+        ensures { IfOk result (λ m. m ≡ (coefficient, atoms.items)) }
+    {
+        let keys = keys_of(alloc, atoms.as_slice())?;
+        Ok(Monomial {
+            coefficient,
+            keys,
+            atoms,
+        })
+    }
+
+    /// The atoms.
+    pub(crate) fn atoms(&self) -> &[Bound]
+        ensures { result.now ≡ self.now.1 }
+    {
+        self.atoms.as_slice()
+    }
+
+    /// Monomials go by how many atoms they have, and then by the keys of these.
+    pub(crate) fn order(&self, other: &Monomial) -> Ordering
+        ensures { result ≡ atoms_order (coded self.now).atoms (coded other.now).atoms }
+    {
+        let keys = self.keys.as_slice();
+        let others = other.keys.as_slice();
+        match keys.len().cmp(&others.len()) {
+            Ordering::Equal => keys.cmp(others),
+            unequal => unequal,
+        }
+    }
+
     /// The coefficient.
-    pub fn coefficient(&self) -> u128
+    pub(crate) fn coefficient(&self) -> u128
         ensures value { result ≡ self.now.0 }
         ensures small { result < past_limit }
     {

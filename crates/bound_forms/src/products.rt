@@ -40,7 +40,7 @@ fn put_row(
 
 /// The product of two forms, multiplied out: the products of each monomial of the one with each of the other, equal ones
 /// added. `Monomials` and `Coefficient` come only where it passes the limit.
-pub fn form_product(
+pub(crate) fn form_product(
     alloc: Global,
     p: &[Monomial],
     q: &[Monomial],

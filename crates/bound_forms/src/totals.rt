@@ -23,7 +23,10 @@ pub(crate) fn put_all(form: Vec<Monomial>, gathering: &mut Gathering) -> Result<
 
 /// The sum of forms: the monomials of all of them, equal ones added. `Monomials` and `Coefficient` come only where it passes
 /// the limit.
-pub fn form_total(alloc: Global, forms: Vec<Vec<Monomial>>) -> Result<Vec<Monomial>, BoundFault>
+pub(crate) fn form_total(
+    alloc: Global,
+    forms: Vec<Vec<Monomial>>,
+) -> Result<Vec<Monomial>, BoundFault>
     ensures { Makes result (total_form (coded_forms forms.items)) }
 {
     let mut gathering = Gathering::new(alloc);

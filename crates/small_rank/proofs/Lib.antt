@@ -1,0 +1,5 @@
+pub mod TermLists
+pub mod Shapes
+pub mod Moves
+pub mod Ranked
+pub mod Answered

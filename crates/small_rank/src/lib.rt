@@ -1,0 +1,6 @@
+//! Small rankings: the first function of at most two sizes that falls with each step, by small certificates.
+#![tactic(auto)]
+
+mod functions;
+
+pub use functions::{Found, first_ranking};

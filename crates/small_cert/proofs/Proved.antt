@@ -14,7 +14,7 @@ use Rattle.lin_rows.proofs.LongestRows.{longest_room}
 use Rattle.small_sums.specs.Sums.{IsFactor}
 use Rattle.small_cert.specs.Small.{IsMultiple, IsSmallBy, AreShared}
 
-scaled_at : (k : ℤ) (cs : List ℤ) (v : ℕ) → get_or (map (λ c. k *ℤ c) cs) v (pos 0) ≡ k *ℤ get_or cs v (pos 0)
+pub scaled_at : (k : ℤ) (cs : List ℤ) (v : ℕ) → get_or (map (λ c. k *ℤ c) cs) v (pos 0) ≡ k *ℤ get_or cs v (pos 0)
 scaled_at k [] v = sym (nothing k)
   where
     nothing : (k : ℤ) → k *ℤ pos 0 ≡ pos 0

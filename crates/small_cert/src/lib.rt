@@ -10,3 +10,4 @@ mod share;
 pub use entails::{entailed, is_small, small_entails};
 pub use least::{Least, least_constant};
 pub use multiple::Multiple;
+pub use share::push_share;

@@ -30,7 +30,7 @@ fn share_of(twice: bool, multiple: Multiple) -> Q
 }
 
 /// Adds a row with its share.
-fn push_share(mults: &mut Mults, term: Term, multiple: Multiple) -> Result<(), AllocError>
+pub fn push_share(mults: &mut Mults, term: Term, multiple: Multiple) -> Result<(), AllocError>
     ensures { OnOk result ((q : Fraction) × IsQuotient q (factor_of term.twice) (whole (times_of multiple)) × (mults.new ≡ mults.old ++ (term.number, q) ∷ [])) }
 {
     mults.push(term.number, share_of(term.twice, multiple))

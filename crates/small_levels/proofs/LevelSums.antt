@@ -84,7 +84,7 @@ zero_same x = same_sym (plus (whole (pos 0)) x) x (zero-plus x)
 
 module _ (rows : List Linear) (l : Linear) (cs : List ℤ) (same : (v : ℕ) → get_or cs v (pos 0) ≡ coefficient_of l v) where
   -- the least constant of the expression from that of the coefficients
-  shifted : (f : Least) → IsLeastSum rows cs f → IsLeastBy rows l (halves (halves_in f -ℤ (pos 2 *ℤ l.constant))) (multipliers_of f.terms) (times_of f.multiple)
+  pub shifted : (f : Least) → IsLeastSum rows cs f → IsLeastBy rows l (halves (halves_in f -ℤ (pos 2 *ℤ l.constant))) (multipliers_of f.terms) (times_of f.multiple)
   shifted f h = record {
     reached = moved rows (expression_of cs) l (halves (halves_in f)) (halves (halves_in f -ℤ (pos 2 *ℤ l.constant))) (multipliers_of f.terms) (times_of f.multiple) (λ v. sym (same v)) (shift_same l.constant (halves_in f)) h.reached;
     least = λ y r. shift_most l.constant (halves_in f) y (h.least (plus (whole l.constant) y) (r.0, r.1, moved rows l (expression_of cs) y (plus (whole l.constant) y) r.0 r.1 same (zero_same (plus (whole l.constant) y)) r.2));

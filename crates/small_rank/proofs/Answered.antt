@@ -5,8 +5,8 @@ use Rattle.lin_rows.specs.declared.row.Transition.{Transition}
 use Rattle.lin_rows.specs.Linear.{Linear}
 use Rattle.small_cert.specs.Order.{terms_of}
 use Rattle.small_rank.specs.declared.functions.Found.{Found}
-use Rattle.small_rank.specs.Ranking.{IsFunction, IsFoundBy, IsFirstFound}
-use Rattle.small_rank.specs.inside.Search.{HasNoRankingBy, HasNoneBefore, HasNoneUpTo}
+use Rattle.small_rank.specs.Ranking.{IsFunction}
+use Rattle.small_rank.specs.inside.Search.{HasNoRankingBy, HasNoneBefore, HasNoneUpTo, IsFoundBy, IsFirstFound}
 use Rattle.small_rank.proofs.Shapes.{Term, key_in}
 use Rattle.small_rank.proofs.Moves.{tried_none, tried_some}
 

@@ -3,3 +3,4 @@ pub mod Shapes
 pub mod Moves
 pub mod Ranked
 pub mod Answered
+pub mod Stepped

@@ -5,8 +5,8 @@ use Rattle.lin_rows.specs.declared.row.Transition.{Transition}
 use Rattle.lin_rows.specs.Linear.{Linear}
 use Rattle.small_cert.specs.Order.{key_of, rank_of, terms_of, Precedes}
 use Rattle.small_rank.specs.declared.functions.Found.{Found}
-use Rattle.small_rank.specs.Ranking.{IsFunction, IsRanking, HasNoRanking, IsFoundBy, IsFirstFound}
-use Rattle.small_rank.specs.inside.Search.{IsSign, HasNoRankingBy, HasNoneBefore, HasNoneUpTo}
+use Rattle.small_rank.specs.Ranking.{IsFunction, IsRanking, HasNoRanking}
+use Rattle.small_rank.specs.inside.Search.{IsSign, HasNoRankingBy, HasNoneBefore, HasNoneUpTo, IsFoundBy, IsFirstFound}
 use Rattle.small_rank.proofs.Shapes.{Shape, none, one, two, Term, key_in, function_shape, same_function}
 
 -- the keys of functions of n sizes

@@ -26,8 +26,8 @@ use Rattle.small_levels.specs.Falls.{IsUnit, AreUnits}
 use Rattle.small_levels.specs.Leveled.{fall_of, IsGate, IsDrop, MakesWhole, IsMeasure}
 use Rattle.small_levels.specs.Measured.{AreLevels, HasNoLevels, times_in, IsMade, HasNoMeasure}
 use Rattle.small_rank.specs.declared.functions.Found.{Found}
-use Rattle.small_rank.specs.Ranking.{IsFunction, IsRanking, IsFoundBy}
-use Rattle.small_rank.specs.inside.Search.{HasNoRankingBy}
+use Rattle.small_rank.specs.Ranking.{IsFunction, IsRanking}
+use Rattle.small_rank.specs.inside.Search.{HasNoRankingBy, IsFoundBy}
 use Rattle.small_rank.proofs.TermLists.{Units}
 
 -- ---- functions have units

@@ -8,8 +8,6 @@ use Rattle.lin_rows.specs.Transitions.{lin_times}
 use Rattle.small_sums.specs.Sums.{Fits}
 use Rattle.small_cert.specs.Order.{terms_of, IsBefore}
 use Rattle.small_levels.specs.Leveled.{IsGate, IsDrop, IsMeasure}
-use Rattle.small_levels.specs.Measured.{times_in}
-use Rattle.small_rank.specs.declared.functions.Found.{Found}
 
 -- ---- functions of n sizes
 -- at most two coefficients that aren't 0, each 1 or -1
@@ -39,11 +37,3 @@ HasNoRanking steps n = (f : Linear) (c d : Fraction) (s : ℕ) (whole_c whole_d 
 -- the expression 0 of n sizes
 abbrev pub zero_of : ℕ → Linear
 zero_of n = record { coefficients = replicate n (pos 0); constant = pos 0 }
-
--- what is found is a ranking, with its fractions and their common factor
-abbrev pub IsFoundBy : List Transition → ℕ → Found → Type 0
-IsFoundBy steps n r = IsRanking steps n r.function r.measure.gate r.measure.fall (times_in r.measure.factor) r.measure.c r.measure.d
-
--- and the first one
-abbrev pub IsFirstFound : List Transition → ℕ → Found → Type 0
-IsFirstFound steps n r = IsFirstRanking steps n r.function r.measure.gate r.measure.fall (times_in r.measure.factor) r.measure.c r.measure.d

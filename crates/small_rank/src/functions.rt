@@ -4,8 +4,8 @@
 ghost use Rattle.std.specs.Prelude.{◌≡◌, ◌<◌, ◌+◌, ◌^◌, length, [], ◌∷◌, IfOk, MatchOption};
 ghost use Rattle.small_cert.specs.Order.{terms_of, rank_of};
 ghost use Rattle.small_levels.specs.Measured.{IsMade, HasNoMeasure};
-ghost use Rattle.small_rank.specs.Ranking.{IsFunction, HasNoRanking, zero_of, IsFoundBy, IsFirstFound};
-ghost use Rattle.small_rank.specs.inside.Search.{IsSign, HasNoRankingBy, HasNoneBefore, HasNoneUpTo};
+ghost use Rattle.small_rank.specs.Ranking.{IsFunction, HasNoRanking, zero_of};
+ghost use Rattle.small_rank.specs.inside.Search.{IsSign, HasNoRankingBy, HasNoneBefore, HasNoneUpTo, IsFoundBy, IsFirstFound};
 
 use lin_rows::Lin;
 use small_levels::{Levels, Measure, Step, levels_over, measure_of};
@@ -13,13 +13,13 @@ use std::alloc::{AllocError, Global};
 
 /// A function with its measure.
 #[derive(Drop)]
-pub struct Found {
+pub(crate) struct Found {
     pub function: Lin,
     pub measure: Measure,
 }
 
 /// The function with no coefficient, one of `a` at `i`, or also one of `b` at `j`.
-fn zero(alloc: Global, sizes: usize) -> Result<Lin, AllocError>
+pub(crate) fn zero(alloc: Global, sizes: usize) -> Result<Lin, AllocError>
     requires { sizes < 2 ^ 32 }
     ensures { IfOk result (λ f. f ≡ zero_of sizes) }
 {
@@ -252,7 +252,7 @@ fn by_sizes(alloc: Global, steps: &[Step<'_>], sizes: usize) -> Result<Option<Fo
 
 /// The first ranking of the steps, each of which has so many sizes, in the order of functions by their coefficients; None
 /// exactly where there is none, so also where no step is live.
-pub fn first_ranking(
+pub(crate) fn first_ranking(
     alloc: Global,
     steps: &[Step<'_>],
     sizes: usize,

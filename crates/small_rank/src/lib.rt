@@ -2,5 +2,6 @@
 #![tactic(auto)]
 
 mod functions;
+mod ranking;
 
-pub use functions::{Found, first_ranking};
+pub use ranking::{SmallRank, StepProof, small_rank};

@@ -5,8 +5,9 @@ use Rattle.std.proofs.lemmas.Bool.{cases_lt, cases_eq}
 use Rattle.lin_rows.specs.Linear.{Linear}
 use Rattle.small_sums.specs.declared.term.Sum.{Sum}
 use Rattle.small_sums.specs.declared.term.Terms.{Terms}
-use Rattle.small_sums.specs.inside.Places.{IsLastBefore, IsNowhereBefore}
-use Rattle.small_sums.specs.inside.Search.{digits_at, AreKeysTo, Follow, CoversTerms, CoversKey, Keeps, IsPast, IsAt, IsVisited, left_of}
+use Rattle.small_sums.specs.inside.Chains.{IsLastBefore, IsNowhereBefore}
+use Rattle.small_sums.specs.Places.{digits_at}
+use Rattle.small_sums.specs.inside.Search.{AreKeysTo, Follow, CoversTerms, CoversKey, Keeps, IsPast, IsAt, IsVisited, left_of}
 use Rattle.small_sums.proofs.Residues.{residue_is_one}
 
 pub keep_terms : (rows : List Linear) (goal : Linear) (before now : Option Sum) (t : Terms) → Keeps before now → CoversTerms rows goal before t → CoversTerms rows goal now t

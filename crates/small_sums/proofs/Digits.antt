@@ -2,7 +2,7 @@
 use Rattle.std.specs.Prelude.{◌≡◌, ◌⊎◌, ℕ, zero, suc, ◌≤◌, ℤ, pos, ◌+ℤ◌, ◌*ℤ◌, List, [], ◌∷◌, length}
 use Rattle.std.proofs.Common.{arith, refl, sym, ap, get_or, ⊎_elim}
 use Rattle.std.proofs.lemmas.Int.{ints}
-use Rattle.small_sums.specs.inside.Keys.{base, digits}
+use Rattle.small_sums.specs.Keys.{base, digits}
 
 -- the same for coefficients as a function of their variables, up to n
 pub spread : (ℕ → ℤ) → ℕ → ℤ

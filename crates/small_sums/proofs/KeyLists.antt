@@ -5,8 +5,9 @@ use Rattle.std.proofs.lemmas.Int.{ints}
 use Rattle.std.proofs.lemmas.Bool.{cases_lt, cases_eq}
 use Rattle.std.proofs.lemmas.List.{length-append, get_or_append_left, get_or_at}
 use Rattle.lin_rows.specs.Linear.{Linear, row_at}
-use Rattle.small_sums.specs.inside.Keys.{digits, IsResidue}
-use Rattle.small_sums.specs.inside.Search.{digits_at, AreKeysTo}
+use Rattle.small_sums.specs.Keys.{digits, IsResidue}
+use Rattle.small_sums.specs.Places.{digits_at}
+use Rattle.small_sums.specs.inside.Search.{AreKeysTo}
 
 one_time : (z : ℤ) → pos 1 *ℤ z ≡ z
 one_time z = omega (arith, ints)

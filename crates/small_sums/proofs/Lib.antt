@@ -9,3 +9,4 @@ pub mod Matches
 pub mod Searching
 pub mod Tried
 pub mod Numbered
+pub mod Ends

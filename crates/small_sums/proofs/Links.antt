@@ -3,7 +3,7 @@ use Rattle.std.specs.Prelude.{◌≡◌, ℕ, suc, ◌+◌, ◌%◌, ◌<◌, �
 use Rattle.std.proofs.Common.{arith, sym, ap, ◌∙◌, subst, get_or, set, ⊎_elim}
 use Rattle.std.proofs.lemmas.Bool.{cases_lt, cases_eq}
 use Rattle.std.proofs.lemmas.List.{length-set, get_or-set_other, get_or-set_same, length-replicate, get_or-replicate, get_or_past, get_or_default}
-use Rattle.small_sums.specs.inside.Places.{AreLinked, AreHeads}
+use Rattle.small_sums.specs.inside.Chains.{AreLinked, AreHeads}
 
 -- ---- a place more
 -- the bucket of the n-th key

@@ -18,8 +18,9 @@ use Rattle.small_sums.specs.declared.term.Terms.TheVariants.{Zero, One, Two}
 use Rattle.small_sums.specs.declared.term.Sum.{Sum}
 use Rattle.small_sums.specs.Sums.{IsFactor, IsMatch}
 use Rattle.small_sums.specs.Terms.{term_of, multipliers_of}
-use Rattle.small_sums.specs.inside.Keys.{digits}
-use Rattle.small_sums.specs.inside.Search.{term_at, digits_at, constant_sum, Covers, CoversTerms, IsSearched}
+use Rattle.small_sums.specs.Keys.{digits}
+use Rattle.small_sums.specs.Places.{term_at, digits_at}
+use Rattle.small_sums.specs.inside.Search.{constant_sum, Covers, CoversTerms, IsSearched}
 use Rattle.small_sums.proofs.Digits.{spread, digits_spread, spread_same, spread_sum, times_spread}
 
 -- ---- coefficients of a match
@@ -45,11 +46,11 @@ unfolding times_at
 times_cases place true e = inr (ap (λ (b : Bool). if b then pos 2 else pos 1) e)
 times_cases place false e = inl (ap (λ (b : Bool). if b then pos 2 else pos 1) e)
 
-record Place (count : ℕ) (p : ℕ × Fraction) : Type 0 where
-  place : ℕ
-  within : place < 2 * count
-  half : place / 2 + 1 ≡ p.0
-  is : term_of (term_at place) ≡ p
+pub record Place (count : ℕ) (p : ℕ × Fraction) : Type 0 where
+  pub place : ℕ
+  pub within : place < 2 * count
+  pub half : place / 2 + 1 ≡ p.0
+  pub is : term_of (term_at place) ≡ p
 
 once_at : (count n : ℕ) → 0 < n → n ≤ count → Place count (n, whole (pos 1))
 once_at count n low high =
@@ -65,7 +66,7 @@ twice_at count n low high =
     let odd : place % 2 ≡ 1 = omega arith in
     record { place = place; within = omega arith; half = half; is = rw (half, odd) refl }
 
-place_at : (count n : ℕ) (q : Fraction) → IsFactor q → 0 < n → n ≤ count → Place count (n, q)
+pub place_at : (count n : ℕ) (q : Fraction) → IsFactor q → 0 < n → n ≤ count → Place count (n, q)
 place_at count n q f low high = ⊎_elim
     (λ e. subst (λ (r : Fraction). Place count (n, r)) (sym e) (once_at count n low high))
     (λ e. subst (λ (r : Fraction). Place count (n, r)) (sym e) (twice_at count n low high)) f
@@ -144,7 +145,7 @@ two_whole x a c b d e = e ∙ ap (λ z. z *ℤ den_of x) (as_two a c b d)
 whole_lowest : (z : ℤ) → IsLowest (whole z)
 whole_lowest z = IsQ-lowest z 1 (IsQ-whole z)
 
-is_whole : (x : Fraction) (z : ℤ) → IsLowest x → IsSame x (whole z) → whole x.num ≡ x
+pub is_whole : (x : Fraction) (z : ℤ) → IsLowest x → IsSame x (whole z) → whole x.num ≡ x
 is_whole x z low e = let is : x ≡ whole z = lowest-unique x (whole z) low (whole_lowest z) e in ap (λ (y : Fraction). whole y.num) is ∙ sym is
 
 pub whole_constant : (rows : List Linear) (terms : Terms) (s : Combination) → rows_added rows (zeros (longest_of rows)) (multipliers_of terms) ≡ Ok s → IsLowest s.constant → whole s.constant.num ≡ s.constant

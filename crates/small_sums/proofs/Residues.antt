@@ -3,7 +3,7 @@ use Rattle.std.specs.Prelude.{◌≡◌, ℕ, ◌+◌, ◌-◌, ◌*◌, ◌/◌
 use Rattle.std.proofs.Common.{arith, refl, sym, ap, subst, drop}
 use Rattle.std.proofs.lemmas.Int.{ints}
 use Rattle.std.proofs.lemmas.List.{drop_all}
-use Rattle.small_sums.specs.inside.Keys.{base, digits, IsResidue}
+use Rattle.small_sums.specs.Keys.{base, digits, IsResidue}
 
 pub low_residue : (n : ℕ) → IsResidue (pos n) (n % 18446744073709551616)
 low_residue n = record { quotient = pos (n / 18446744073709551616); value = ap pos (omega arith); small = omega arith }
@@ -46,7 +46,7 @@ opposite_residue z n r h e =
     let s = h.small in
     record { quotient = neg_ℤ h.quotient -ℤ pos 1; value = omega (arith, ints, v, s, e); small = omega arith }
 
-zero_residue : IsResidue (pos 0) 0
+pub zero_residue : IsResidue (pos 0) 0
 zero_residue = record { quotient = pos 0; value = refl; small = omega arith }
 
 pub no_digits : (cs : List ℤ) (i : ℕ) → length cs ≤ i → IsResidue (digits (drop i cs)) 0

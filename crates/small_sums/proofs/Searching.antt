@@ -9,8 +9,9 @@ use Rattle.small_sums.specs.declared.term.Terms.TheVariants.{Zero, One}
 use Rattle.small_sums.specs.declared.term.Sum.{Sum}
 use Rattle.small_sums.specs.Sums.{IsMatch, IsLeastMatch, HasNoMatch}
 use Rattle.small_sums.specs.Terms.{multipliers_of}
-use Rattle.small_sums.specs.inside.Keys.{digits, IsResidue}
-use Rattle.small_sums.specs.inside.Search.{term_at, digits_at, AreKeys, IsFound, Covers, CoversTerms, CoversKey, CoversFront, Keeps, IsSearched}
+use Rattle.small_sums.specs.Keys.{digits, IsResidue}
+use Rattle.small_sums.specs.Places.{term_at, digits_at}
+use Rattle.small_sums.specs.inside.Search.{AreKeys, IsFound, Covers, CoversTerms, CoversKey, CoversFront, Keeps, IsSearched}
 use Rattle.small_sums.proofs.Behind.{keep_terms}
 use Rattle.small_sums.proofs.Matches.{all_covered}
 

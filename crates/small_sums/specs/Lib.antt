@@ -1,3 +1,5 @@
 pub mod Sums
 pub mod Terms
+pub mod Keys
+pub mod Places
 pub mod inside

@@ -12,7 +12,9 @@ ghost use Rattle.lin_rows.specs.Proving.{AreRowNumbers};
 ghost use Rattle.lin_rows.specs.Rows.{lins, longest_of};
 ghost use Rattle.small_sums.specs.Sums.{IsMatch, IsLeastMatch, HasNoMatch};
 ghost use Rattle.small_sums.specs.Terms.{multipliers_of};
-ghost use Rattle.small_sums.specs.inside.Search.{term_at, digits_at, AreKeys, AreTerms, Follow, IsSumOf, IsFound, Covers, CoversTerms, CoversKey, Keeps, constant_in, constant_sum};
+ghost use Rattle.small_sums.specs.Keys.{IsResidue};
+ghost use Rattle.small_sums.specs.Places.{term_at, digits_at, IsLastWith, HasNoneWith};
+ghost use Rattle.small_sums.specs.inside.Search.{AreKeys, AreTerms, Follow, IsSumOf, IsFound, Covers, CoversTerms, CoversKey, Keeps, constant_in, constant_sum};
 
 use crate::key::{doubled, key_of, rest_of};
 use crate::places::Places;
@@ -57,7 +59,7 @@ fn keys_of(alloc: Global, rows: &[Row]) -> Result<Vec<u64>, AllocError>
 }
 
 /// The row of a place, once or twice.
-fn term_of(place: usize) -> Term
+pub fn term_of(place: usize) -> Term
     requires { place + 2 < 2 ^ 33 }
     ensures { result ≡ term_at place }
 {
@@ -264,5 +266,39 @@ impl<'a> RowIndex<'a> {
             best = self.better_behind(goal, &mut scratch, Some(front), key, best);
         }
         Ok(best)
+    }
+}
+
+/// The places of the rows by their keys, for sums of more rows.
+impl<'a> RowIndex<'a> {
+    /// How many places there are.
+    pub fn places(&self) -> usize
+        ensures value { result ≡ 2 * length self.now }
+        ensures within { length self.now < 2 ^ 32 }
+    {
+        self.places.len()
+    }
+
+    /// The key of the row of a place.
+    pub fn key(&self, place: usize) -> u64
+        requires { place < 2 * length self.now }
+        ensures { IsResidue (digits_at (lins self.now) place) result }
+    {
+        self.places.key(place)
+    }
+
+    /// The last place of a key.
+    pub fn last(&self, key: u64) -> Option<usize>
+        ensures { MatchOption result (HasNoneWith (lins self.now) key (2 * length self.now)) (IsLastWith (lins self.now) key (2 * length self.now)) }
+    {
+        self.places.last(key)
+    }
+
+    /// The place before this one that has the same key.
+    pub fn before(&self, place: usize) -> Option<usize>
+        requires { place < 2 * length self.now }
+        ensures { (key : ℕ) → IsResidue (digits_at (lins self.now) place) key → MatchOption result (HasNoneWith (lins self.now) key place) (IsLastWith (lins self.now) key place) }
+    {
+        self.places.previous(place)
     }
 }

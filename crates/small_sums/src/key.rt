@@ -1,7 +1,7 @@
 //! Keys of expressions, by which sums are found.
 
 ghost use Rattle.std.specs.Prelude.{◌≡◌, ℕ, ℤ, pos, ◌+ℤ◌, ◌*ℤ◌};
-ghost use Rattle.small_sums.specs.inside.Keys.{base, digits, IsResidue};
+ghost use Rattle.small_sums.specs.Keys.{base, digits, IsResidue};
 
 /// 2^64.
 const LIMIT: u128 = 0x1_0000_0000_0000_0000;

@@ -6,5 +6,6 @@ mod key;
 mod places;
 mod term;
 
-pub use index::RowIndex;
+pub use index::{RowIndex, term_of};
+pub use key::{key_of, rest_of};
 pub use term::{Sum, Term, Terms};

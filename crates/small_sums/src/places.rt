@@ -1,7 +1,7 @@
 //! The places of keys in a list, found without walking through it.
 
 ghost use Rattle.std.specs.Prelude.{◌≡◌, ℕ, suc, ◌<◌, ◌≤◌, ◌%◌, ◌^◌, length, slice_index, IfOk, MatchOption};
-ghost use Rattle.small_sums.specs.inside.Places.{IsLastBefore, IsNowhereBefore, AreLinked};
+ghost use Rattle.small_sums.specs.inside.Chains.{IsLastBefore, IsNowhereBefore, AreLinked};
 
 use std::alloc::{AllocError, Global};
 use std::marker::Model;
@@ -19,7 +19,7 @@ pub struct Places {
 
 impl Model for Places {
     ghost use Rattle.std.specs.Prelude.{ℕ, List};
-    ghost use Rattle.small_sums.specs.inside.Places.{IsChained};
+    ghost use Rattle.small_sums.specs.inside.Chains.{IsChained};
 
     ghost Value = { List ℕ };
 

@@ -1,5 +1,5 @@
 -- What the search for a least sum keeps. Each row has two places, once and twice.
-use Rattle.std.specs.Prelude.{◌≡◌, ℕ, suc, ◌+◌, ◌*◌, ◌/◌, ◌%◌, ◌<◌, ◌==◌, ℤ, pos, ◌+ℤ◌, ◌*ℤ◌, List, length, slice_index, Option, Some, None, if◌then◌else◌}
+use Rattle.std.specs.Prelude.{◌≡◌, ℕ, suc, ◌*◌, ◌/◌, ◌<◌, ℤ, pos, ◌+ℤ◌, ◌*ℤ◌, List, length, slice_index, Option, Some, None, if◌then◌else◌}
 use Rattle.q128.specs.Fraction.{Fraction, whole, IsAtMost}
 use Rattle.lin_rows.specs.Linear.{Linear, row_at}
 use Rattle.lin_rows.specs.Combining.{Combination}
@@ -11,15 +11,8 @@ use Rattle.std.specs.List.Sorted.{IsStrictlyIncreasing}
 use Rattle.lin_rows.specs.Proving.{AreRowNumbers}
 use Rattle.small_sums.specs.Sums.{IsMatch, numbers_of}
 use Rattle.small_sums.specs.Terms.{multipliers_of}
-use Rattle.small_sums.specs.inside.Keys.{digits, IsResidue}
-
--- the row of a place, once at an even place and twice at an odd one
-abbrev pub term_at : ℕ → Term
-term_at place = record { number = place / 2 + 1; twice = place % 2 == 1 }
-
--- what the key of a place is the key of
-abbrev pub digits_at : List Linear → ℕ → ℤ
-digits_at rows place = (if place % 2 == 1 then pos 2 else pos 1) *ℤ digits (row_at rows (place / 2 + 1)).coefficients
+use Rattle.small_sums.specs.Keys.{digits, IsResidue}
+use Rattle.small_sums.specs.Places.{term_at, digits_at}
 
 -- the keys of the places of the first n rows
 pub record AreKeysTo (n : ℕ) (rows : List Linear) (keys : List ℕ) : Type 0 where

@@ -4,8 +4,7 @@ use Rattle.std.proofs.Common.{rules, subst}
 use Rattle.std.proofs.lemmas.Int.{to_z-of_z}
 use Rattle.small_cert.specs.Order.{rank_of}
 use Rattle.small_rank.specs.declared.functions.Found.{Found}
-use Rattle.small_rank.specs.Ranking.{IsFirstFound}
-use Rattle.small_rank.specs.inside.Search.{HasNoneBefore, HasNoneUpTo}
+use Rattle.small_rank.specs.inside.Search.{HasNoneBefore, HasNoneUpTo, IsFirstFound}
 use Rattle.small_rank.proofs.Moves.{moved, followed, to_two, to_two_minus, to_rank}
 use Rattle.small_rank.proofs.Answered.{Searched, answer_moved}
 use Rattle.small_rank.proofs.functions.by_half_pair.Goals as goal

@@ -1,8 +1,7 @@
 use Rattle.std.specs.Prelude.{[], ◌∷◌, ◌+◌, Option, MatchOption}
 use Rattle.std.proofs.Common.{subst}
 use Rattle.small_rank.specs.declared.functions.Found.{Found}
-use Rattle.small_rank.specs.Ranking.{IsFirstFound}
-use Rattle.small_rank.specs.inside.Search.{HasNoneBefore}
+use Rattle.small_rank.specs.inside.Search.{HasNoneBefore, IsFirstFound}
 use Rattle.small_rank.proofs.Moves.{moved, to_plus, to_later}
 use Rattle.small_rank.proofs.Answered.{answer_moved}
 use Rattle.small_rank.proofs.functions.by_pair.Goals as goal

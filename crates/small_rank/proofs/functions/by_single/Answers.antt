@@ -1,8 +1,7 @@
 use Rattle.std.specs.Prelude.{[], ◌∷◌, ◌+◌, Option}
 use Rattle.std.proofs.Common.{subst}
 use Rattle.small_rank.specs.declared.functions.Found.{Found}
-use Rattle.small_rank.specs.Ranking.{IsFirstFound}
-use Rattle.small_rank.specs.inside.Search.{HasNoneBefore, HasNoneUpTo}
+use Rattle.small_rank.specs.inside.Search.{HasNoneBefore, HasNoneUpTo, IsFirstFound}
 use Rattle.small_rank.proofs.Moves.{moved, followed, to_one, to_minus, to_next}
 use Rattle.small_rank.proofs.Answered.{Searched, answer_moved}
 use Rattle.small_rank.proofs.functions.by_single.Goals as goal

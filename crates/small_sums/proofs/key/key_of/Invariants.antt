@@ -1,5 +1,5 @@
 use Rattle.std.proofs.Common.{drop}
-use Rattle.small_sums.specs.inside.Keys.{digits, IsResidue}
+use Rattle.small_sums.specs.Keys.{digits, IsResidue}
 use Rattle.small_sums.proofs.key.key_of.Given as goal
 
 abbrev pub invariant-loop-i : goal.invariant-loop-i

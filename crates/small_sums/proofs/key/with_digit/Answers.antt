@@ -1,7 +1,7 @@
 use Rattle.std.proofs.lemmas.Int.{to_z-of_z}
 use Rattle.std.specs.Prelude.{FitsSigned}
 use Rattle.std.specs.Int.{w128}
-use Rattle.small_sums.specs.inside.Keys.{IsResidue}
+use Rattle.small_sums.specs.Keys.{IsResidue}
 use Rattle.small_sums.proofs.Residues.{digit_residue}
 use Rattle.small_sums.proofs.key.with_digit.Goals as goal
 

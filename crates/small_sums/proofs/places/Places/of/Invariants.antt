@@ -1,5 +1,5 @@
 use Rattle.std.proofs.Common.{◌+◌}
-use Rattle.small_sums.specs.inside.Places.{AreLinked, AreHeads}
+use Rattle.small_sums.specs.inside.Chains.{AreLinked, AreHeads}
 use Rattle.small_sums.proofs.places.Places.of.Given as goal
 
 abbrev pub invariant-loop-place : goal.invariant-loop-place

@@ -1,0 +1,6 @@
+use Rattle.std.proofs.Common.{◌≡◌, ℕ, ℤ, ◌++◌, map, take}
+use Rattle.small_cert.specs.Order.{rank_of}
+use Rattle.small_caps.proofs.order.push_ranks.Given as goal
+
+abbrev pub invariant-loop-term : goal.invariant-loop-term
+invariant-loop-term l = l.key.items ≡ l.initial.key.items ++ map (λ (t : ℕ × ℤ). rank_of t.1) (take l.term-index l.terms)

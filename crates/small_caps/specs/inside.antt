@@ -1,0 +1,4 @@
+pub mod Entries
+pub mod Numbers
+pub mod Picks
+pub mod Search

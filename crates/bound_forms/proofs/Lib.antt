@@ -5,3 +5,16 @@ pub mod Passing
 pub mod Dividing
 pub mod Rising
 pub mod Fixed
+pub mod Covering
+pub mod Comparing
+pub mod Combining
+pub mod Pruning
+pub mod Shapes
+pub mod Emptiness
+pub mod Vanishing
+pub mod Views
+pub mod Flags
+pub mod Readings
+pub mod Amounts
+pub mod Limiting
+pub mod Formation

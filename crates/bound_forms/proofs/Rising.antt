@@ -11,26 +11,26 @@ use Rattle.bound_forms.specs.Monomials.{Monomial, Form, atom_key, atom_order, at
 use Rattle.bound_forms.specs.Normal.{Rising, NotFalling}
 use Rattle.bound_forms.specs.Laws.{GatheredRise, SumsRise, ProductsRise, AtomsStayInOrder}
 
-atom_order_total : IsTotalOrder atom_order
+pub atom_order_total : IsTotalOrder atom_order
 atom_order_total = on_total atom_key nat_list_cmp_total
 
-atoms_order_total : IsTotalOrder atoms_order
+pub atoms_order_total : IsTotalOrder atoms_order
 atoms_order_total = then_total (on_total (λ (xs : List Term). length xs) nat_cmp_total) (lists_total atom_order_total)
 
 -- ---- monomials
-abbrev First : List Term → Form → Type 0
+abbrev pub First : List Term → Form → Type 0
 First atoms [] = Unit {0}
 First atoms (n ∷ p) = atoms_order atoms n.atoms ≡ Less
 
-rising : (m : Monomial) (p : Form) → First m.atoms p → Rising p → Rising (m ∷ p)
+pub rising : (m : Monomial) (p : Form) → First m.atoms p → Rising p → Rising (m ∷ p)
 rising m [] f r = tt
 rising m (n ∷ p) f r = (f, r)
 
-first : (m : Monomial) (p : Form) → Rising (m ∷ p) → First m.atoms p
+pub first : (m : Monomial) (p : Form) → Rising (m ∷ p) → First m.atoms p
 first m [] r = tt
 first m (n ∷ p) r = r.0
 
-behind : (m : Monomial) (p : Form) → Rising (m ∷ p) → Rising p
+pub behind : (m : Monomial) (p : Form) → Rising (m ∷ p) → Rising p
 behind m [] r = tt
 behind m (n ∷ p) r = r.1
 
@@ -43,7 +43,7 @@ first_put : (atoms : List Term) (m : Monomial) (p : Form) → atoms_order atoms 
 first_put atoms m [] h f = h
 first_put atoms m (n ∷ ns) h f = first_by (atoms_order m.atoms n.atoms) atoms m n ns (put m ns) h f
 
-same_first : (xs ys : List Term) (p : Form) → atoms_order xs ys ≡ Equal → First ys p → First xs p
+pub same_first : (xs ys : List Term) (p : Form) → atoms_order xs ys ≡ Equal → First ys p → First xs p
 same_first xs ys [] e f = tt
 same_first xs ys (n ∷ p) e f = atoms_order_total.congr xs ys n.atoms e ∙ f
 
@@ -52,7 +52,7 @@ rising_by Less m n ns rest e f r later g = (e, rising n ns f r)
 rising_by Equal m n ns rest e f r later g = rising (record { coefficient = m.coefficient + n.coefficient; atoms = m.atoms }) ns (same_first m.atoms n.atoms ns e f) r
 rising_by Greater m n ns rest e f r later g = rising n rest (g (atoms_order_total.antisymm n.atoms m.atoms ∙ ap ordering_reverse e)) later
 
-rising_put : (m : Monomial) (p : Form) → Rising p → Rising (put m p)
+pub rising_put : (m : Monomial) (p : Form) → Rising p → Rising (put m p)
 rising_put m [] r = tt
 rising_put m (n ∷ ns) r =
     rising_by (atoms_order m.atoms n.atoms) m n ns (put m ns) refl (first n ns r) (behind n ns r) (rising_put m ns (behind n ns r)) (λ h. first_put n.atoms m ns h (first n ns r))

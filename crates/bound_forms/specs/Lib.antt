@@ -7,5 +7,6 @@ pub mod Limits
 pub mod Answered
 pub mod Normal
 pub mod Needed
+pub mod Formed
 pub mod Laws
 pub mod inside

@@ -17,9 +17,13 @@ pub data Needs (u : Term) : Term → Type 0 where
   in_product : {v : Term} {ts : Terms} → ¬ (form (Product ts) ≡ []) → IsPart v ts → Needs u v → Needs u (Product ts)
   in_greatest : {v : Term} {ts : Terms} → IsPart v ts → Needs u v → Needs u (Greatest ts)
 
+-- the forms of all that it needs keep both limits
+abbrev pub NeedsKeep : Term → Type 0
+NeedsKeep t = (u : Term) → Needs u t → Keeps (form u)
+
 -- the form is answered where it keeps both limits with those that it is made of, and a limit where one of these passes it
 abbrev pub IsNormalized : Result Bound BoundFault → Term → Type 0
-IsNormalized (Ok b) t = (term_of b ≡ form_term (form t)) × ((u : Term) → Needs u t → Keeps (form u))
+IsNormalized (Ok b) t = (term_of b ≡ form_term (form t)) × NeedsKeep t
 IsNormalized (Err Monomials) t = (u : Term) × Needs u t × (has_many (form_term (form u)) ≡ true)
 IsNormalized (Err Coefficient) t = (u : Term) × Needs u t × (has_great (form_term (form u)) ≡ true)
 IsNormalized (Err Memory) t = Unit {0}

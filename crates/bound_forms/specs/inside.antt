@@ -2,3 +2,4 @@ pub mod Entries
 pub mod Numbers
 pub mod Passing
 pub mod Places
+pub mod Pruning

@@ -3,16 +3,21 @@
 
 mod copies;
 mod fault;
+mod forming;
 mod gathering;
 mod keys;
 pub mod laws;
 mod leaves;
 mod limits;
+mod maxima;
 mod monomial;
 mod products;
+mod reading;
 mod reducing;
 mod totals;
+mod zeros;
 
 pub use copies::copy;
 pub use fault::BoundFault;
+pub use forming::normal;
 pub use reducing::lowest;

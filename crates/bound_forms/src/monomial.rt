@@ -182,6 +182,13 @@ impl Monomial {
         Ok(product)
     }
 
+    /// The atoms alone.
+    pub(crate) fn into_atoms(self) -> Vec<Bound>
+        ensures { result.items ≡ self.1 }
+    {
+        self.atoms
+    }
+
     /// The monomial as an entry of a map.
     pub(crate) fn into_entry(self) -> (Key, (u128, Vec<Bound>))
         ensures keyed { IsKeyed result }

@@ -13,13 +13,15 @@ use Rattle.op_table.specs.declared.construct.Construct.TheVariants as constructs
 use Rattle.op_table.specs.declared.instr.Instr.{Instr}
 use Rattle.world.specs.declared.member.MemberId.{MemberId}
 use Rattle.class_hierarchy.specs.World.{World}
-use Rattle.machine.specs.declared.frames.Frame.{Frame}
-use Rattle.machine.specs.declared.configuration.Here.{Here}
-use Rattle.machine.specs.Outcome.{Outcome, Standing, method_at, code_at}
-use Rattle.machine.specs.Step.{standing_on, standing_in, standing_of, standing_at, outcome_of}
-use Rattle.machine.specs.Row as rows
-use Rattle.machine.specs.Row.{Row, RowAt}
-use Rattle.machine.proofs.Rows.{outcome_is_row}
+use Rattle.frames.specs.declared.frame.Frame.{Frame}
+use Rattle.frames.specs.declared.here.Here.{Here}
+use Rattle.frames.specs.Outcome.{Outcome}
+use Rattle.frames.specs.Standing.{Standing, standing_on, standing_in, standing_of, standing_at}
+use Rattle.linking.specs.Methods.{method_at, code_at}
+use Rattle.steps.specs.Step.{outcome_of}
+use Rattle.steps.specs.Row as rows
+use Rattle.steps.specs.Row.{Row, RowAt}
+use Rattle.steps.proofs.Rows.{outcome_is_row}
 use Rattle.code_flow.specs.declared.program.Planned.{Planned}
 use Rattle.code_flow.specs.declared.program.Reached.{Reached}
 use Rattle.code_flow.specs.Placing.{Placed, placed, broken}

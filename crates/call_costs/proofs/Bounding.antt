@@ -13,18 +13,20 @@ use Rattle.class_hierarchy.specs.World.{World}
 use Rattle.class_hierarchy.specs.Building.{IsWellBuilt}
 use Rattle.nested_runs.specs.Spending.{IsClosed}
 use Rattle.nested_runs.proofs.Spent.{closed_where, nest_spends}
-use Rattle.machine.specs.declared.frames.Frame.{Frame}
-use Rattle.machine.specs.declared.configuration.Here.{Here}
-use Rattle.machine.specs.declared.configuration.State.{State}
-use Rattle.machine.specs.declared.configuration.Status.{Status}
-use Rattle.machine.specs.declared.configuration.Status.TheVariants as statuses
-use Rattle.machine.specs.declared.configuration.Stop.TheVariants.{Support}
-use Rattle.machine.specs.Outcome.{Effect, Stops, Stays, method_at, code_at}
-use Rattle.machine.specs.Step.{standing_on, standing_in, standing_of, standing_at, outcome_on, outcome_of, weight_of}
-use Rattle.machine.specs.Entry.{IsEntry}
+use Rattle.frames.specs.declared.frame.Frame.{Frame}
+use Rattle.frames.specs.declared.here.Here.{Here}
+use Rattle.steps.specs.declared.configuration.State.{State}
+use Rattle.steps.specs.declared.configuration.Status.{Status}
+use Rattle.steps.specs.declared.configuration.Status.TheVariants as statuses
+use Rattle.frames.specs.declared.failure.Stop.TheVariants.{Support}
+use Rattle.frames.specs.Outcome.{Stops}
+use Rattle.linking.specs.Methods.{method_at, code_at}
+use Rattle.frames.specs.Standing.{standing_on, standing_in, standing_of, standing_at}
+use Rattle.steps.specs.Step.{outcome_on, outcome_of, weight_of}
+use Rattle.entries.specs.Entry.{IsEntry}
 use Rattle.machine.specs.Run.{IsRun, CostsAtMost}
 use Rattle.machine.specs.Moment as moments
-use Rattle.machine.specs.Moment.{End, MayGo, Moves, Starts, Ends, IsSpent, Moment, activations}
+use Rattle.machine.specs.Moment.{End, Moves, Starts, Ends, IsSpent, Moment, activations}
 use Rattle.machine.proofs.Moments.{at_moment}
 use Rattle.code_flow.specs.declared.program.Reached.{Reached}
 use Rattle.code_flow.specs.Program.{IsProgram}
@@ -77,7 +79,7 @@ nothing_stands w frame code has past =
     let none = no_instr code.bytes frame.pc (instr_at code.bytes frame.pc) past refl in
     nothing_by w frame (method_at w frame.method) code none.0 has none.1
 
-stops_there : (w : World) (a : Here) → standing_at w a.frame ≡ None → outcome_of w a ≡ Stays (Stops Support) a
+stops_there : (w : World) (a : Here) → standing_at w a.frame ≡ None → outcome_of w a ≡ Stops Support
 unfolding outcome_of
 stops_there w a none = ap (outcome_on w a) none
 
@@ -85,8 +87,7 @@ no_move : (w : World) (weights : ℕ → ℕ) (a b : Here) (k : ℕ) → standin
 no_move w weights a b k none m =
     let stops = stops_there w a none in
     let makes = m.makes in
-    let same : Stops Support ≡ m.effect = cc in
-    subst (λ (x : Effect). MayGo false x) (sym same) m.goes
+    absurd cc
 
 no_start : (w : World) (weights : ℕ → ℕ) (a b : Here) (k : ℕ) → standing_at w a.frame ≡ None → Starts w weights a k b → ⊥
 no_start w weights a b k none st =

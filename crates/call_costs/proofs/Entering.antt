@@ -8,14 +8,14 @@ use Rattle.world.specs.declared.member.MemberId.{MemberId}
 use Rattle.class_hierarchy.specs.World.{World}
 use Rattle.class_hierarchy.specs.Building.{IsWellBuilt}
 use Rattle.nested_runs.proofs.Kept.{nest_since, top_since}
-use Rattle.machine.specs.declared.values.Value.{Value}
-use Rattle.machine.specs.declared.values.Value.TheVariants.{Int, Long, Pad, Null, Ref}
-use Rattle.machine.specs.declared.heap.Cell.{Cell}
-use Rattle.machine.specs.declared.configuration.Here.{Here}
-use Rattle.machine.specs.declared.configuration.State.{State}
-use Rattle.machine.specs.Heap.{Cells, cell_at}
-use Rattle.machine.specs.Outcome.{code_at}
-use Rattle.machine.specs.Entry.{IsHeld, words_of_value, words_of_values, IsEntry}
+use Rattle.frames.specs.declared.value.Value.{Value}
+use Rattle.frames.specs.declared.value.Value.TheVariants.{Int, Long, Pad, Null, Ref}
+use Rattle.frames.specs.declared.heap.Cell.{Cell}
+use Rattle.frames.specs.declared.here.Here.{Here}
+use Rattle.steps.specs.declared.configuration.State.{State}
+use Rattle.frames.specs.Heap.{Cells, cell_at}
+use Rattle.linking.specs.Methods.{code_at}
+use Rattle.entries.specs.Entry.{IsHeld, words_of_value, words_of_values, IsEntry}
 use Rattle.machine.specs.Run.{IsRun}
 use Rattle.machine.specs.Moment.{Moment}
 use Rattle.machine.proofs.Moments.{at_moment}

@@ -3,11 +3,11 @@ use Rattle.std.proofs.Common.{◌≡◌, ◌⊎◌, inl, inr, ℕ, zero, suc, Li
 use Rattle.std.proofs.lemmas.List.Elements.{All-weaker}
 use Rattle.world.specs.declared.member.MemberId.{MemberId}
 use Rattle.class_hierarchy.specs.World.{World}
-use Rattle.machine.specs.declared.values.Value.{Value}
-use Rattle.machine.specs.declared.values.Value.TheVariants.{Int, Long, Pad, Null, Ref}
-use Rattle.machine.specs.declared.heap.Cell.{Cell}
-use Rattle.machine.specs.declared.heap.Cell.TheVariants.{Object}
-use Rattle.machine.specs.Heap.{Cells, cell_at, free_number, with_cell}
+use Rattle.frames.specs.declared.value.Value.{Value}
+use Rattle.frames.specs.declared.value.Value.TheVariants.{Int, Long, Pad, Null, Ref}
+use Rattle.frames.specs.declared.heap.Cell.{Cell}
+use Rattle.frames.specs.declared.heap.Cell.TheVariants.{Object}
+use Rattle.frames.specs.Heap.{Cells, cell_at, free_number, with_cell}
 use Rattle.call_costs.proofs.Words.{IsMade, IsKnown, AreKnown}
 
 abbrev pub Grows : World → Cells → Cells → Type 0

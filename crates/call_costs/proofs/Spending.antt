@@ -12,11 +12,12 @@ use Rattle.world.specs.declared.member.MemberId.{MemberId}
 use Rattle.class_hierarchy.specs.World.{World}
 use Rattle.class_hierarchy.specs.Building.{IsWellBuilt}
 use Rattle.nested_runs.specs.Spending.{IsClosedWhere}
-use Rattle.machine.specs.declared.frames.Frame.{Frame}
-use Rattle.machine.specs.declared.configuration.Here.{Here}
-use Rattle.machine.specs.Outcome.{code_at}
-use Rattle.machine.specs.Step.{weight_of, in_frame}
-use Rattle.machine.specs.Calling.{new_frame}
+use Rattle.frames.specs.declared.frame.Frame.{Frame}
+use Rattle.frames.specs.declared.here.Here.{Here}
+use Rattle.frames.specs.Outcome.{in_frame}
+use Rattle.linking.specs.Methods.{code_at}
+use Rattle.steps.specs.Step.{weight_of}
+use Rattle.steps.specs.Calling.{new_frame}
 use Rattle.machine.specs.Moment as moments
 use Rattle.machine.specs.Moment.{End, MayGo, Moves, Starts, Ends, Resumes, IsSpent, Moment, activations}
 use Rattle.code_flow.specs.declared.program.Planned.{Planned}
@@ -158,7 +159,7 @@ module _ {w : World} {first : MemberId} {program : List Reached} (weights : ℕ 
       let t : MemberId = c.called.target in
       let there : Contains p.targets t = call_target weights well is s st.makes in
       let listed : IsListed program t = is.closed a.frame.method t (plan_calls w first program a t is s p there) in
-      let now : b ≡ in_frame a (new_frame t c.called.code c.called.handed.words) = st.begins ∙ ap (in_frame a) c.called.enters in
+      let now : b ≡ in_frame a (new_frame t c.called.code c.called.taken.handed.words) = st.begins ∙ ap (in_frame a) c.called.enters in
       let begun : left weights program w b ≡ cost_of weights program t = ap (λ (x : Here). left weights program w x) now ∙ start_left weights program w first t c.called.code is listed c.called.has_code in
       let most : cost_of weights program t ≤ greatest (map (cost_of weights program) p.targets) = greatest_least (map (cost_of weights program) p.targets) (cost_of weights program t) (in_map (cost_of weights program) p.targets t there) in
       let on : is_end (action_of p.instr) ≡ false = ap is_end c.is in
@@ -172,9 +173,10 @@ module _ {w : World} {first : MemberId} {program : List Reached} (weights : ℕ 
       let c = call_by weights well is s re.waits.1 in
       let back = back_by weights well is s re in
       let at : Frame → ℕ = λ f. left_in weights program w f.method f.pc (code_at w f.method) in
+      let behind : Frame → ℕ = λ f. left_in weights program w f.method (f.pc + p.instr.len) (code_at w f.method) in
       ap (λ (x : Here). left weights program w x) re.now
       ∙ ap at back.now
-      ∙ ap at c.called.waits
+      ∙ ap behind c.called.waits
 
   pub costs_closed : IsClosedWhere (activations w weights false) (λ start a. Since w program start a) (λ start e. Over w start e)
       (λ a c e. c ≤ left weights program w a) (λ a c. c ≤ left weights program w a)

@@ -1,6 +1,6 @@
 -- Each step of an activation of a program's method keeps that it stands in the program.
-use Rattle.std.proofs.Common.{◌≡◌, ℕ, ◌+◌, ◌<◌, Bool, true, false, ◌&&◌, List, ◌∷◌, length, Option, Some, None, refl, sym, ◌∙◌, ap, subst, Contains, nat_le, nat_lt}
-use Rattle.std.specs.Prelude.{if◌then◌else◌}
+use Rattle.std.proofs.Common.{◌≡◌, ℕ, ◌+◌, ◌<◌, ℤ, Bool, true, false, ◌&&◌, List, ◌∷◌, length, Option, Some, None, refl, sym, ◌∙◌, ap, subst, Contains, nat_le, nat_lt}
+use Rattle.std.specs.Prelude.{if◌then◌else◌, option_and_then}
 use Rattle.std.proofs.lemmas.Bool.{ltb-true}
 use Rattle.std.proofs.lemmas.List.Elements.{All-nil, All-cons}
 use Rattle.class_pool.specs.declared.constant.Constant.{Constant}
@@ -16,28 +16,41 @@ use Rattle.class_hierarchy.specs.Building.{IsWellBuilt}
 use Rattle.world.specs.Selection.{method_of}
 use Rattle.linking.proofs.Made.{made_there}
 use Rattle.nested_runs.specs.Keeping.{Keeps}
-use Rattle.machine.specs.declared.values.Value.{Value}
-use Rattle.machine.specs.declared.values.Value.TheVariants.{Ref}
-use Rattle.machine.specs.declared.heap.Cell.TheVariants.{Object}
-use Rattle.machine.specs.declared.frames.Frame.{Frame}
-use Rattle.machine.specs.declared.configuration.Here.{Here}
-use Rattle.machine.specs.declared.configuration.Thrown.TheVariants as thrown
-use Rattle.machine.specs.Heap.{Cells, free_number, with_cell, new_fields}
+use Rattle.frames.specs.declared.value.Value.{Value}
+use Rattle.frames.specs.declared.value.Value.TheVariants.{Ref}
+use Rattle.frames.specs.declared.heap.Cell.TheVariants.{Object}
+use Rattle.frames.specs.declared.frame.Frame.{Frame}
+use Rattle.frames.specs.declared.here.Here.{Here}
+use Rattle.frames.specs.Heap.{Cells, free_number, with_cell, new_fields}
 use Rattle.descriptors.specs.Pieces.{parameters_of, result_of}
 use Rattle.descriptors.specs.Texts.{words_of_all}
-use Rattle.machine.specs.Outcome.{Effect, Throws, Stops, Outcome, Stays, Enters, Leaves, Standing, code_at, next_pc, with_words, moved}
-use Rattle.machine.specs.Calling.{narrowed_to, receiver_words, waiting, new_frame}
-use Rattle.machine.specs.Step.{outcome_of, resumed, resumed_in, with_result, in_frame, standing_on}
-use Rattle.machine.specs.Moment.{End, MayGo, Moves, Starts, Ends, Resumes, activations}
-use Rattle.machine.specs.Row as rows
-use Rattle.machine.specs.Row.{Computed, Row, Called}
+use Rattle.frames.specs.Outcome.{Outcome, Goes, Enters, Leaves, in_frame, with_words, moved}
+use Rattle.frames.specs.Standing.{Standing, next_pc, standing_on, standing_at}
+use Rattle.linking.specs.Methods.{code_at}
+use Rattle.word_steps.specs.Narrowing.{narrowed_to}
+use Rattle.steps.specs.Calling.{receiver_words, waiting, new_frame}
+use Rattle.steps.specs.Step.{outcome_of, resumed, resumed_by, with_result}
+use Rattle.machine.specs.Moment.{End, Moves, Starts, Ends, Resumes, activations}
+use Rattle.steps.specs.Row as rows
+use Rattle.word_steps.specs.Computed as computed
+use Rattle.word_steps.specs.Computed.{Computed}
+use Rattle.word_steps.specs.Branches as ways
+use Rattle.word_steps.specs.Branches.{Jumps}
+use Rattle.object_steps.specs.After.{After}
+use Rattle.object_steps.specs.ArrayCases as arrays
+use Rattle.object_steps.specs.ArrayCases.{ArrayChange}
+use Rattle.object_steps.specs.FieldCases as fields
+use Rattle.object_steps.specs.FieldCases.{FieldChange}
+use Rattle.object_steps.specs.CastCases as casts
+use Rattle.object_steps.specs.CastCases.{CastChange}
+use Rattle.steps.specs.Row.{Row, Called}
 use Rattle.code_flow.specs.declared.program.Reached.{Reached}
-use Rattle.code_flow.specs.Judging.{is_end}
+use Rattle.code_flow.specs.Judging.{is_end, shown}
 use Rattle.code_flow.specs.Program.{IsProgram}
 use Rattle.call_costs.proofs.Placing.{path_start, path_next}
 use Rattle.call_costs.proofs.Words.{IsMade, IsKnown, AreKnown, pushed_known, popped_known, taken_known, first_known, narrowed_known, computed_known}
 use Rattle.call_costs.proofs.Heaps.{Grows, grows_self, grows_on, known_later, grows_new, new_known}
-use Rattle.call_costs.proofs.Targets.{dispatched_target, call_links}
+use Rattle.call_costs.proofs.Targets.{dispatched_target, call_links, shows_none}
 use Rattle.call_costs.proofs.Activations.{IsListed, IsStanding, code_whole, plan_of, plan_calls}
 
 -- ---- a step that goes on in its frame
@@ -54,28 +67,59 @@ pub record GoesOn (w : World) (s : Standing) (a b : Here) (action : Action) : Ty
   pub known : AreKnown w a.heap a.frame.locals → AreKnown w a.heap a.frame.stack → AreKnown w heap locals × AreKnown w heap stack
 
 computed_goes_on : {pool : List (Option Constant)} {locals stack now after : List Value} {action : Action} {wrapping : Bool} → Computed pool locals stack action wrapping now after → is_end action ≡ false
-computed_goes_on rows.nothing = refl
-computed_goes_on rows.null = refl
-computed_goes_on rows.int = refl
-computed_goes_on rows.long = refl
-computed_goes_on (rows.int_constant is) = refl
-computed_goes_on (rows.long_constant is) = refl
-computed_goes_on (rows.load is) = refl
-computed_goes_on (rows.store is to) = refl
-computed_goes_on (rows.shuffle is) = refl
-computed_goes_on (rows.arithmetic is whole) = refl
-computed_goes_on (rows.negate is) = refl
-computed_goes_on (rows.shift is) = refl
-computed_goes_on (rows.logic is) = refl
-computed_goes_on (rows.increment is) = refl
-computed_goes_on (rows.int_to_long is) = refl
-computed_goes_on (rows.long_to_int is) = refl
-computed_goes_on (rows.narrow is) = refl
-computed_goes_on (rows.compare is) = refl
+computed_goes_on computed.nothing = refl
+computed_goes_on computed.null = refl
+computed_goes_on computed.int = refl
+computed_goes_on computed.long = refl
+computed_goes_on (computed.int_constant is) = refl
+computed_goes_on (computed.long_constant is) = refl
+computed_goes_on (computed.load is) = refl
+computed_goes_on (computed.store is to) = refl
+computed_goes_on (computed.shuffle is) = refl
+computed_goes_on (computed.arithmetic is whole) = refl
+computed_goes_on (computed.negate is) = refl
+computed_goes_on (computed.shift is) = refl
+computed_goes_on (computed.logic is) = refl
+computed_goes_on (computed.increment is) = refl
+computed_goes_on (computed.int_to_long is) = refl
+computed_goes_on (computed.long_to_int is) = refl
+computed_goes_on (computed.narrow is) = refl
+computed_goes_on (computed.compare is) = refl
 
-pub goes_on : (w : World) (s : Standing) (a b : Here) (effect : Effect) {action : Action} {o : Outcome} → Row w s a action o → o ≡ Stays effect b → MayGo false effect
-    → GoesOn w s a b action
-goes_on w s a b effect (rows.computes {locals = locals} {stack = stack} c room) e may = record {
+-- no jump stands in a program
+no_jump : {code : List ℕ} {pc len : ℕ} {stack rest : List Value} {action : Action} {far : ℤ} (pool : List (Option Constant))
+    → Jumps code pc len stack action far rest → shown pool action ≡ None → ⊥
+no_jump pool (ways.if_zero is by) none = cc
+no_jump pool (ways.if_ints is by) none = cc
+no_jump pool (ways.if_same is by) none = cc
+no_jump pool (ways.if_null is by) none = cc
+no_jump pool ways.goto none = cc
+no_jump pool (ways.switch is by) none = cc
+
+-- nor does an instruction on arrays, fields or what a reference is an instance of
+no_array : {w : World} {s : Standing} {at : Here} {action : Action} {a : After} (pool : List (Option Constant)) → ArrayChange w s at action a → shown pool action ≡ None → ⊥
+no_array pool (arrays.loads a1 a2 a3 a4) none = cc
+no_array pool (arrays.stores a1 a2 a3 a4 a5) none = cc
+no_array pool (arrays.length_read a1 a2 a3 a4) none = cc
+no_array pool (arrays.makes a1 a2 a3) none = cc
+no_array pool (arrays.makes_references a1 a2 a3 a4) none = cc
+
+no_field : {w : World} {s : Standing} {at : Here} {action : Action} {a : After} (pool : List (Option Constant)) → FieldChange w s at action a → shown pool action ≡ None → ⊥
+no_field pool (fields.gets a1 a2 a3 a4) none = cc
+no_field pool (fields.puts a1 a2 a3 a4 a5) none = cc
+no_field pool (fields.gets_static a1 a2) none = cc
+no_field pool (fields.puts_static a1 a2 a3) none = cc
+
+no_cast : {w : World} {s : Standing} {at : Here} {action : Action} {a : After} (pool : List (Option Constant)) → CastChange w s at action a → shown pool action ≡ None → ⊥
+no_cast pool (casts.null_passes a1 a2 a3) none = cc
+no_cast pool (casts.passes a1 a2 a3 a4) none = cc
+no_cast pool (casts.null_is_none a1 a2 a3) none = cc
+no_cast pool (casts.is_one a1 a2 a3 a4) none = cc
+no_cast pool (casts.is_none a1 a2 a3 a4) none = cc
+
+pub goes_on : (w : World) (s : Standing) (a b : Here) (wraps : Bool) {action : Action} {o : Outcome} → Row w s a action o → shown s.class.pool action ≡ None
+    → o ≡ Goes wraps b → GoesOn w s a b action
+goes_on w s a b wraps (rows.computes {locals = locals} {stack = stack} c room) none e = record {
   locals = locals;
   stack = stack;
   heap = a.heap;
@@ -85,7 +129,11 @@ goes_on w s a b effect (rows.computes {locals = locals} {stack = stack} c room) 
   grows = grows_self w a.heap;
   known = λ l k. computed_known w a.heap c l k;
 }
-goes_on w s a b effect (rows.creates {i = i} {c = c} means room) e may =
+goes_on w s a b wraps (rows.jumps is to room) none e = absurd (no_jump s.class.pool is none)
+goes_on w s a b wraps (rows.arrays is room) none e = absurd (no_array s.class.pool is none)
+goes_on w s a b wraps (rows.fields is room) none e = absurd (no_field s.class.pool is none)
+goes_on w s a b wraps (rows.casts is room) none e = absurd (no_cast s.class.pool is none)
+goes_on w s a b wraps (rows.creates {i = i} {c = c} means room) none e =
     let stack = Ref (free_number a.heap) ∷ a.frame.stack in
     let heap = with_cell (Object c (new_fields w c)) a.heap in
     let is_made : IsMade w c = made_there w (class_name_at s.class.pool i) c means in
@@ -103,14 +151,17 @@ goes_on w s a b effect (rows.creates {i = i} {c = c} means room) e may =
         All-cons (IsKnown w heap) (Ref (free_number a.heap)) a.frame.stack (new_known w a.heap c (new_fields w c) is_made) (known_later w a.heap heap a.frame.stack grows k),
       );
     }
-goes_on w s a b effect (rows.enters called) e may = absurd cc
-goes_on w s a b effect (rows.returns is typed) e may = absurd cc
-goes_on w s a b effect (rows.returns_nothing is) e may = absurd cc
-goes_on w s a b effect (rows.divides is by) e may = let same : Throws thrown.Arithmetic ≡ effect = cc in absurd (subst (λ (x : Effect). MayGo false x) (sym same) may)
-goes_on w s a b effect rows.null_receiver e may = let same : Throws thrown.NullPointer ≡ effect = cc in absurd (subst (λ (x : Effect). MayGo false x) (sym same) may)
-goes_on w s a b effect (rows.null_thrown is) e may = let same : Throws thrown.NullPointer ≡ effect = cc in absurd (subst (λ (x : Effect). MayGo false x) (sym same) may)
-goes_on w s a b effect (rows.given is) e may = let same : Throws thrown.Given ≡ effect = cc in absurd (subst (λ (x : Effect). MayGo false x) (sym same) may)
-goes_on w s a b effect (rows.stops {k = k}) e may = let same : Stops k ≡ effect = cc in absurd (subst (λ (x : Effect). MayGo false x) (sym same) may)
+goes_on w s a b wraps (rows.arrays_throw is) none e = absurd cc
+goes_on w s a b wraps (rows.fields_throw is) none e = absurd cc
+goes_on w s a b wraps (rows.casts_throw is) none e = absurd cc
+goes_on w s a b wraps (rows.enters called) none e = absurd cc
+goes_on w s a b wraps (rows.null_receiver called) none e = absurd cc
+goes_on w s a b wraps (rows.returns is typed) none e = absurd cc
+goes_on w s a b wraps (rows.returns_nothing is) none e = absurd cc
+goes_on w s a b wraps (rows.divides by) none e = absurd cc
+goes_on w s a b wraps (rows.null_thrown is) none e = absurd cc
+goes_on w s a b wraps (rows.given is) none e = absurd cc
+goes_on w s a b wraps rows.stops none e = absurd cc
 
 -- ---- a step that calls, and one that returns
 
@@ -123,6 +174,13 @@ pub record Calls (w : World) (s : Standing) (a : Here) (action : Action) (caller
 pub enters_by : (w : World) (s : Standing) (a : Here) (caller callee : Frame) {action : Action} {o : Outcome} → Row w s a action o → o ≡ Enters caller callee → Calls w s a action caller callee
 enters_by w s a caller callee (rows.computes c room) e = absurd cc
 enters_by w s a caller callee (rows.creates means room) e = absurd cc
+enters_by w s a caller callee (rows.jumps is to room) e = absurd cc
+enters_by w s a caller callee (rows.arrays is room) e = absurd cc
+enters_by w s a caller callee (rows.fields is room) e = absurd cc
+enters_by w s a caller callee (rows.casts is room) e = absurd cc
+enters_by w s a caller callee (rows.arrays_throw is) e = absurd cc
+enters_by w s a caller callee (rows.fields_throw is) e = absurd cc
+enters_by w s a caller callee (rows.casts_throw is) e = absurd cc
 enters_by w s a caller callee (rows.enters {call = call} {i = i} {caller = one} {callee = other} called) e =
     let first : one ≡ caller = cc in
     let second : other ≡ callee = cc in
@@ -134,8 +192,8 @@ enters_by w s a caller callee (rows.enters {call = call} {i = i} {caller = one} 
     }
 enters_by w s a caller callee (rows.returns is typed) e = absurd cc
 enters_by w s a caller callee (rows.returns_nothing is) e = absurd cc
-enters_by w s a caller callee (rows.divides is by) e = absurd cc
-enters_by w s a caller callee rows.null_receiver e = absurd cc
+enters_by w s a caller callee (rows.divides by) e = absurd cc
+enters_by w s a caller callee (rows.null_receiver called) e = absurd cc
 enters_by w s a caller callee (rows.null_thrown is) e = absurd cc
 enters_by w s a caller callee (rows.given is) e = absurd cc
 enters_by w s a caller callee rows.stops e = absurd cc
@@ -147,43 +205,51 @@ IsResult w heap (Some value) = IsKnown w heap value
 leaves_with : (w : World) (s : Standing) (a : Here) (value : Option Value) {action : Action} {o : Outcome} → Row w s a action o → o ≡ Leaves value → AreKnown w a.heap a.frame.stack → IsResult w a.heap value
 leaves_with w s a value (rows.computes c room) e known = absurd cc
 leaves_with w s a value (rows.creates means room) e known = absurd cc
+leaves_with w s a value (rows.jumps is to room) e known = absurd cc
+leaves_with w s a value (rows.arrays is room) e known = absurd cc
+leaves_with w s a value (rows.fields is room) e known = absurd cc
+leaves_with w s a value (rows.casts is room) e known = absurd cc
+leaves_with w s a value (rows.arrays_throw is) e known = absurd cc
+leaves_with w s a value (rows.fields_throw is) e known = absurd cc
+leaves_with w s a value (rows.casts_throw is) e known = absurd cc
 leaves_with w s a value (rows.enters called) e known = absurd cc
 leaves_with w s a value (rows.returns {kind = kind} {p = p} is typed) e known =
     let got = popped_known w a.heap kind a.frame.stack p is known in
     let same : Some (narrowed_to (result_of s.method.desc) p.value) ≡ value = cc in
     subst (λ (v : Option Value). IsResult w a.heap v) same (narrowed_known w a.heap (result_of s.method.desc) p.value got.0)
 leaves_with w s a value (rows.returns_nothing is) e known = let same : None ≡ value = cc in subst (λ (v : Option Value). IsResult w a.heap v) same tt
-leaves_with w s a value (rows.divides is by) e known = absurd cc
-leaves_with w s a value rows.null_receiver e known = absurd cc
+leaves_with w s a value (rows.divides by) e known = absurd cc
+leaves_with w s a value (rows.null_receiver called) e known = absurd cc
 leaves_with w s a value (rows.null_thrown is) e known = absurd cc
 leaves_with w s a value (rows.given is) e known = absurd cc
 leaves_with w s a value rows.stops e known = absurd cc
 
--- the frame that waited goes on, where there is room
-pub record GoesBack (caller frame : Frame) (stack : List Value) (code : Code) : Type 0 where
-  pub inside : caller.pc < length code.bytes
-  pub now : frame ≡ with_words caller caller.pc caller.locals stack
+-- the frame that waited goes on behind its call, where there is room
+pub record GoesBack (caller frame : Frame) (stack : List Value) (s : Standing) : Type 0 where
+  pub inside : caller.pc + s.instr.len < length s.code.bytes
+  pub now : frame ≡ with_words caller (caller.pc + s.instr.len) caller.locals stack
 
-back_if : (caller frame : Frame) (stack : List Value) (code : Code) (low inside : Bool) → nat_lt caller.pc (length code.bytes) ≡ inside
-    → (if low && inside then Some (with_words caller caller.pc caller.locals stack) else None) ≡ Some frame → GoesBack caller frame stack code
-back_if caller frame stack code true true is e = record {
-  inside = ltb-true caller.pc (length code.bytes) is;
-  now = let same : with_words caller caller.pc caller.locals stack ≡ frame = cc in sym same;
+back_if : (caller frame : Frame) (stack : List Value) (s : Standing) (low inside : Bool) → nat_lt (caller.pc + s.instr.len) (length s.code.bytes) ≡ inside
+    → (if low && inside then Some (with_words caller (caller.pc + s.instr.len) caller.locals stack) else None) ≡ Some frame → GoesBack caller frame stack s
+back_if caller frame stack s true true is e = record {
+  inside = ltb-true (caller.pc + s.instr.len) (length s.code.bytes) is;
+  now = let same : with_words caller (caller.pc + s.instr.len) caller.locals stack ≡ frame = cc in sym same;
 }
-back_if caller frame stack code true false is e = absurd cc
-back_if caller frame stack code false inside is e = absurd cc
+back_if caller frame stack s true false is e = absurd cc
+back_if caller frame stack s false inside is e = absurd cc
 
-back_in : (caller frame : Frame) (stack : List Value) (o : Option Code) (code : Code) → o ≡ Some code → resumed_in caller stack o ≡ Some frame → GoesBack caller frame stack code
-back_in caller frame stack None code has e = absurd cc
-back_in caller frame stack (Some c) code has e =
-    let same : c ≡ code = cc in
-    subst (λ (x : Code). GoesBack caller frame stack x) same
-    (back_if caller frame stack c (nat_le (length stack) c.max_stack) (nat_lt caller.pc (length c.bytes)) refl e)
-
-pub goes_back : (w : World) (caller frame : Frame) (value : Option Value) (code : Code) → code_at w caller.method ≡ Some code → resumed w caller value ≡ Some frame
-    → GoesBack caller frame (with_result value caller.stack) code
+pub goes_back : (w : World) (caller frame : Frame) (value : Option Value) (s : Standing) → standing_at w caller ≡ Some s → resumed w caller value ≡ Some frame
+    → GoesBack caller frame (with_result value caller.stack) s
 unfolding resumed
-goes_back w caller frame value code has e = back_in caller frame (with_result value caller.stack) (code_at w caller.method) code has e
+goes_back w caller frame value s stands e =
+    let stack = with_result value caller.stack in
+    let found : resumed_by caller stack s ≡ Some frame = sym (ap (option_and_then (resumed_by caller stack)) stands) ∙ e in
+    back_if caller frame stack s (nat_le (length stack) s.code.max_stack) (nat_lt (caller.pc + s.instr.len) (length s.code.bytes)) refl found
+
+-- a frame that waits stands at its call
+waiting_stands : (w : World) (a : Here) (rest : List Value) (s : Standing) → standing_at w a.frame ≡ Some s → standing_at w (waiting a rest) ≡ Some s
+unfolding standing_at
+waiting_stands w a rest s stands = stands
 
 result_known : (w : World) (heap : Cells) (value : Option Value) (stack : List Value) → IsResult w heap value → AreKnown w heap stack → AreKnown w heap (with_result value stack)
 result_known w heap None stack known all = all
@@ -203,7 +269,8 @@ module _ {w : World} {first : MemberId} {program : List Reached} (weights : ℕ 
   pub move_stands : {a b : Here} {k : ℕ} (s : IsStanding w program a) → Moves w weights false a k b → GoesOn w (standing_on w a.frame (plan_of w first program a is s).method s.code (plan_of w first program a is s).instr) a b (action_of (plan_of w first program a is s).instr)
   move_stands {a = a} {b = b} s m =
       let p = plan_of w first program a is s in
-      goes_on w (standing_on w a.frame p.method s.code p.instr) a b m.effect p.row m.makes m.goes
+      goes_on w (standing_on w a.frame p.method s.code p.instr) a b m.wraps p.row
+      (shows_none w a.frame.method.class s.code.bytes (record { pc = a.frame.pc; instr = p.instr }) p.targets p.verdict) m.makes
 
   moved_since : {start a b : Here} {k : ℕ} → Since w program start a → Moves w weights false a k b → Since w program start b
   moved_since {start = start} {a = a} {b = b} since m =
@@ -238,9 +305,9 @@ module _ {w : World} {first : MemberId} {program : List Reached} (weights : ℕ 
       let p = plan_of w first program a is s in
       let c = call_by s makes in
       let called = c.called in
-      let words = (taken_known w a.heap (receiver_words c.call + words_of_all (parameters_of (method_of w called.meant.method).desc)) a.frame.stack called.handed called.takes s.stack).0 in
-      let links = call_links w a.frame.method.class s.code.bytes (record { pc = a.frame.pc; instr = p.instr }) c.call c.index p.targets called.meant p.verdict c.is called.links in
-      dispatched_target w a.heap called.meant p.targets called.dispatches well words links.0 links.1
+      let words = (taken_known w a.heap (receiver_words c.call + words_of_all (parameters_of (method_of w called.taken.meant.method).desc)) a.frame.stack called.taken.handed called.taken.takes s.stack).0 in
+      let links = call_links w a.frame.method.class s.code.bytes (record { pc = a.frame.pc; instr = p.instr }) c.call c.index p.targets called.taken.meant p.verdict c.is called.taken.links in
+      dispatched_target w a.heap called.taken.meant p.targets called.dispatches well words links.0 links.1
 
   started_stands : {a b : Here} {k : ℕ} → IsStanding w program a → Starts w weights a k b → IsStanding w program b
   started_stands {a = a} {b = b} s st =
@@ -248,15 +315,15 @@ module _ {w : World} {first : MemberId} {program : List Reached} (weights : ℕ 
       let c = call_by s st.makes in
       let called = c.called in
       let listed : IsListed program called.target = is.closed a.frame.method called.target (plan_calls w first program a called.target is s p (call_target s st.makes)) in
-      let words = (taken_known w a.heap (receiver_words c.call + words_of_all (parameters_of (method_of w called.meant.method).desc)) a.frame.stack called.handed called.takes s.stack).0 in
-      let now : in_frame a (new_frame called.target called.code called.handed.words) ≡ b = sym (st.begins ∙ ap (in_frame a) called.enters) in
+      let words = (taken_known w a.heap (receiver_words c.call + words_of_all (parameters_of (method_of w called.taken.meant.method).desc)) a.frame.stack called.taken.handed called.taken.takes s.stack).0 in
+      let now : in_frame a (new_frame called.target called.code called.taken.handed.words) ≡ b = sym (st.begins ∙ ap (in_frame a) called.enters) in
       subst (λ (x : Here). IsStanding w program x) now
       (record {
         listed = listed;
         code = called.code;
         has_code = called.has_code;
         path = path_start called.code.bytes called.begins (code_whole w first called.target program called.code is listed called.has_code);
-        locals = first_known w a.heap called.handed.words called.code.max_locals words;
+        locals = first_known w a.heap called.taken.handed.words called.code.max_locals words;
         stack = All-nil (IsKnown w a.heap);
       })
 
@@ -272,26 +339,27 @@ module _ {w : World} {first : MemberId} {program : List Reached} (weights : ℕ 
 
   -- the frame as which it waits, and goes on behind its call
   pub back_by : {a r : Here} {e : End} (s : IsStanding w program a) → (re : Resumes w a e r)
-      → GoesBack re.caller re.frame (with_result e.value re.caller.stack) s.code
+      → GoesBack re.caller re.frame (with_result e.value re.caller.stack) (standing_on w a.frame (plan_of w first program a is s).method s.code (plan_of w first program a is s).instr)
   back_by {a = a} {e = e} s re =
       let p = plan_of w first program a is s in
       let c = call_by s re.waits.1 in
-      let same : a.frame.method ≡ re.caller.method = sym (ap (λ (f : Frame). f.method) c.called.waits) in
-      let has : code_at w re.caller.method ≡ Some s.code = subst (λ (m : MemberId). code_at w m ≡ Some s.code) same s.has_code in
-      goes_back w re.caller re.frame e.value s.code has re.goes
+      let this : Standing = standing_on w a.frame p.method s.code p.instr in
+      let stands : standing_at w re.caller ≡ Some this =
+      subst (λ (f : Frame). standing_at w f ≡ Some this) (sym c.called.waits) (waiting_stands w a c.called.taken.handed.rest this p.stands) in
+      goes_back w re.caller re.frame e.value this stands re.goes
 
   resumed_stands : {a r : Here} {e : End} → IsStanding w program a → Grows w a.heap e.heap → IsResult w e.heap e.value → Resumes w a e r → IsStanding w program r
   resumed_stands {a = a} {r = r} {e = e} s grows value re =
       let p = plan_of w first program a is s in
       let c = call_by s re.waits.1 in
       let called = c.called in
-      let this = standing_on w a.frame p.method s.code p.instr in
       let back = back_by s re in
-      let waits : re.caller ≡ waiting this a called.handed.rest = called.waits in
-      let inside : a.frame.pc + p.instr.len < length s.code.bytes = subst (λ (f : Frame). f.pc < length s.code.bytes) waits back.inside in
-      let rest = (taken_known w a.heap (receiver_words c.call + words_of_all (parameters_of (method_of w called.meant.method).desc)) a.frame.stack called.handed called.takes s.stack).1 in
-      let frame : Frame = with_words a.frame (a.frame.pc + p.instr.len) a.frame.locals (with_result e.value called.handed.rest) in
-      let is_frame : frame ≡ re.frame = sym (back.now ∙ ap (λ (f : Frame). with_words f f.pc f.locals (with_result e.value f.stack)) waits) in
+      let left : List Value = called.taken.handed.rest in
+      let waits : re.caller ≡ waiting a left = called.waits in
+      let inside : a.frame.pc + p.instr.len < length s.code.bytes = subst (λ (f : Frame). f.pc + p.instr.len < length s.code.bytes) waits back.inside in
+      let rest = (taken_known w a.heap (receiver_words c.call + words_of_all (parameters_of (method_of w called.taken.meant.method).desc)) a.frame.stack called.taken.handed called.taken.takes s.stack).1 in
+      let frame : Frame = with_words a.frame (a.frame.pc + p.instr.len) a.frame.locals (with_result e.value left) in
+      let is_frame : frame ≡ re.frame = sym (back.now ∙ ap (λ (f : Frame). with_words f (f.pc + p.instr.len) f.locals (with_result e.value f.stack)) waits) in
       let now : record { frame = frame; heap = e.heap; statics = e.statics } ≡ r = ap (λ (f : Frame). record { frame = f; heap = e.heap; statics = e.statics }) is_frame ∙ sym re.now in
       subst (λ (x : Here). IsStanding w program x) now
       (record {
@@ -300,7 +368,7 @@ module _ {w : World} {first : MemberId} {program : List Reached} (weights : ℕ 
         has_code = s.has_code;
         path = path_next s.code.bytes a.frame.pc p.instr s.path p.is inside;
         locals = known_later w a.heap e.heap a.frame.locals grows s.locals;
-        stack = result_known w e.heap e.value called.handed.rest value (known_later w a.heap e.heap called.handed.rest grows rest);
+        stack = result_known w e.heap e.value left value (known_later w a.heap e.heap left grows rest);
       })
 
   resumed_since : {start a b r : Here} {e : End} {k : ℕ} → Since w program start a → Starts w weights a k b → Over w b e → Resumes w a e r → Since w program start r

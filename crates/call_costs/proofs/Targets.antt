@@ -23,11 +23,11 @@ use Rattle.linking.specs.TargetList.{targets_of}
 use Rattle.linking.specs.Calls.{none_native, with_code, run_by, linked_by, called_by}
 use Rattle.linking.proofs.TargetLists.{targets_listed}
 use Rattle.linking.proofs.Linked.{IsThere, untold, linked_runs}
-use Rattle.machine.specs.declared.values.Value.{Value}
-use Rattle.machine.specs.declared.values.Value.TheVariants.{Ref}
-use Rattle.machine.specs.Heap.{Cells}
-use Rattle.machine.specs.Row as rows
-use Rattle.machine.specs.Row.{Dispatched}
+use Rattle.frames.specs.declared.value.Value.{Value}
+use Rattle.frames.specs.declared.value.Value.TheVariants.{Ref}
+use Rattle.frames.specs.Heap.{Cells}
+use Rattle.steps.specs.Row as rows
+use Rattle.steps.specs.Row.{Dispatched}
 use Rattle.code_flow.specs.Placing.{Placed, is_last}
 use Rattle.code_flow.specs.Judging.{shown, meant, judged, judged_past, is_end}
 use Rattle.call_costs.proofs.Words.{IsKnown, AreKnown}
@@ -85,6 +85,19 @@ past_is : (falls_off : Bool) (meaning : Result (List MemberId) Construct) (const
 past_is falls_off meaning (Some construct) ts e = absurd cc
 past_is true meaning None ts e = absurd cc
 past_is false meaning None ts e = e
+
+past_none : (falls_off : Bool) (meaning : Result (List MemberId) Construct) (construct : Option Construct) (ts : List MemberId)
+    → judged_past falls_off meaning construct ≡ Ok ts → construct ≡ None
+past_none falls_off meaning (Some construct) ts e = absurd cc
+past_none falls_off meaning None ts e = refl
+
+-- an instruction of a program shows nothing that isn't analysed
+pub shows_none : (w : World) (current : ℕ) (code : List ℕ) (p : Placed) (ts : List MemberId) → judged w current code p ≡ Ok ts
+    → shown (class_at w current).pool (action_of p.instr) ≡ None
+unfolding judged
+shows_none w current code p ts e =
+    let pool = (class_at w current).pool in
+    past_none (is_last code p && not (is_end (action_of p.instr))) (meant w current pool (action_of p.instr)) (shown pool (action_of p.instr)) ts e
 
 pub judged_call : (w : World) (current : ℕ) (code : List ℕ) (p : Placed) (call : Call) (i : ℕ) (ts : List MemberId) → judged w current code p ≡ Ok ts → action_of p.instr ≡ acts.Call call i
     → called_by w current call (member_at (class_at w current).pool i) ≡ Ok ts

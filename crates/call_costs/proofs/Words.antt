@@ -13,14 +13,15 @@ use Rattle.op_table.specs.declared.acts.Shuffle.TheVariants.{Pop, Pop2, Dup, Dup
 use Rattle.world.specs.declared.member.MemberId.{MemberId}
 use Rattle.class_hierarchy.specs.World.{World, is_instantiable}
 use Rattle.class_pool.specs.declared.constant.Constant.{Constant}
-use Rattle.machine.specs.declared.values.Value.{Value}
-use Rattle.machine.specs.declared.values.Value.TheVariants.{Int, Long, Pad, Null, Ref}
-use Rattle.machine.specs.declared.heap.Cell.TheVariants.{Object}
-use Rattle.machine.specs.Heap.{Cells, cell_at}
-use Rattle.machine.specs.Words.{Popped, PoppedNumber, PoppedTwo, pushed, popped, popped_number, popped_two, below_number, number, top_size, below_size, placed, is_whole, shuffled, held, loaded, with_word, stored}
-use Rattle.machine.specs.Calling.{Handed, taken, first_locals, narrowed_to}
-use Rattle.machine.specs.Row as rows
-use Rattle.machine.specs.Row.{Computed}
+use Rattle.frames.specs.declared.value.Value.{Value}
+use Rattle.frames.specs.declared.value.Value.TheVariants.{Int, Long, Pad, Null, Ref}
+use Rattle.frames.specs.declared.heap.Cell.TheVariants.{Object}
+use Rattle.frames.specs.Heap.{Cells, cell_at}
+use Rattle.frames.specs.Words.{Popped, PoppedNumber, PoppedTwo, pushed, popped, popped_number, popped_two, below_number, number, top_size, below_size, placed, is_whole, shuffled, held, loaded, with_word, stored, first_locals}
+use Rattle.steps.specs.Calling.{Handed, taken}
+use Rattle.word_steps.specs.Narrowing.{narrowed_to}
+use Rattle.word_steps.specs.Computed as rows
+use Rattle.word_steps.specs.Computed.{Computed}
 
 -- a class of the world of which there can be objects
 abbrev pub IsMade : World → ℕ → Type 0
@@ -197,7 +198,7 @@ first_known w heap words max_locals all =
     All-append (IsKnown w heap) words (replicate (max_locals - length words) Pad) all (All-replicate (IsKnown w heap) (max_locals - length words) Pad tt)
 
 pub narrowed_known : (w : World) (heap : Cells) (type : List ℕ) (value : Value) → IsKnown w heap value → IsKnown w heap (narrowed_to type value)
-narrowed_known w heap (b ∷ []) (Int z) known = tt
+narrowed_known w heap type (Int z) known = tt
 narrowed_known w heap type value known = known
 
 -- ---- instructions that change words alone

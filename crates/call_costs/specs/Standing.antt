@@ -8,13 +8,13 @@ use Rattle.class_reader.specs.declared.class.Code.{Code}
 use Rattle.code_flow.specs.declared.program.Planned.{Planned}
 use Rattle.code_flow.specs.declared.program.Reached.{Reached}
 use Rattle.code_flow.specs.Program.{IsProgram}
-use Rattle.machine.specs.declared.values.Value.{Value}
-use Rattle.machine.specs.declared.values.Value.TheVariants.{Ref}
-use Rattle.machine.specs.declared.heap.Cell.TheVariants.{Object}
-use Rattle.machine.specs.declared.configuration.Here.{Here}
-use Rattle.machine.specs.declared.configuration.State.{State}
-use Rattle.machine.specs.Heap.{Cells, cell_at}
-use Rattle.machine.specs.Outcome.{code_at}
+use Rattle.frames.specs.declared.value.Value.{Value}
+use Rattle.frames.specs.declared.value.Value.TheVariants.{Ref}
+use Rattle.frames.specs.declared.heap.Cell.TheVariants.{Object}
+use Rattle.frames.specs.declared.here.Here.{Here}
+use Rattle.steps.specs.declared.configuration.State.{State}
+use Rattle.frames.specs.Heap.{Cells, cell_at}
+use Rattle.linking.specs.Methods.{code_at}
 use Rattle.machine.specs.Run.{IsRun, CostsAtMost}
 use Rattle.call_costs.specs.Costs.{cost_of}
 

@@ -11,7 +11,7 @@ use Rattle.op_table.specs.declared.construct.Construct.TheVariants.{Later}
 use Rattle.world.specs.declared.member.MemberId.{MemberId}
 use Rattle.class_hierarchy.specs.World.{World, class_at}
 use Rattle.world.specs.Tables.{HasMethod}
-use Rattle.machine.specs.Outcome.{method_at}
+use Rattle.linking.specs.Methods.{method_at}
 use Rattle.code_flow.specs.declared.fault.FlowFault.{FlowFault}
 use Rattle.code_flow.specs.declared.fault.FlowFault.TheVariants.{NoMethod, Unsupported, TooManyMethods}
 use Rattle.code_flow.specs.declared.program.Reached.{Reached}

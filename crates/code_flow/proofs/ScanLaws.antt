@@ -8,7 +8,7 @@ use Rattle.class_reader.specs.declared.class.Code.{Code}
 use Rattle.op_table.specs.declared.construct.Construct.TheVariants as constructs
 use Rattle.world.specs.declared.member.MemberId.{MemberId}
 use Rattle.class_hierarchy.specs.World.{World}
-use Rattle.machine.specs.Outcome.{method_at}
+use Rattle.linking.specs.Methods.{method_at}
 use Rattle.code_flow.specs.declared.fault.FlowFault.{FlowFault}
 use Rattle.code_flow.specs.Placing.{Placed, placed, broken}
 use Rattle.class_reader.specs.Flags.{is_synchronized}

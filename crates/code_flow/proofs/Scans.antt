@@ -7,7 +7,7 @@ use Rattle.world.specs.declared.member.MemberId.{MemberId}
 use Rattle.class_hierarchy.specs.World.{World, constructor, object_class, class_at}
 use Rattle.world.specs.Selection.{method_of}
 use Rattle.world.specs.Tables.{HasMethod}
-use Rattle.machine.specs.Outcome.{method_at, code_at}
+use Rattle.linking.specs.Methods.{method_at, code_at}
 use Rattle.code_flow.specs.Flow.{with_code}
 use Rattle.code_flow.specs.Scanning.{sites_of, first_against, scan_in, scan_of}
 

@@ -9,7 +9,7 @@ use Rattle.op_table.specs.declared.construct.Construct.TheVariants.{Later}
 use Rattle.world.specs.declared.member.MemberId.{MemberId}
 use Rattle.class_hierarchy.specs.World.{World, class_at, number_of}
 use Rattle.world.specs.Resolution.{member, is_method}
-use Rattle.machine.specs.Outcome.{code_at}
+use Rattle.linking.specs.Methods.{code_at}
 use Rattle.code_flow.specs.declared.fault.FlowFault.{FlowFault}
 use Rattle.code_flow.specs.declared.fault.FlowFault.TheVariants.{NoMethod, Unsupported, TooManyMethods}
 use Rattle.code_flow.specs.declared.program.Planned.{Planned}

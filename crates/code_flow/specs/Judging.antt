@@ -20,7 +20,7 @@ use Rattle.linking.specs.Told.{construct_if}
 use Rattle.linking.specs.References.{against_call}
 use Rattle.linking.specs.Calls.{called_by}
 use Rattle.linking.specs.Members.{made_by}
-use Rattle.machine.specs.Outcome.{method_at}
+use Rattle.linking.specs.Methods.{method_at}
 use Rattle.code_flow.specs.Placing.{Placed, placed, broken, is_last}
 
 -- ---- what is known before names are looked up

@@ -6,7 +6,7 @@ use Rattle.op_table.specs.declared.construct.Construct.{Construct}
 use Rattle.op_table.specs.declared.construct.Construct.TheVariants as constructs
 use Rattle.world.specs.declared.member.MemberId.{MemberId}
 use Rattle.class_hierarchy.specs.World.{World}
-use Rattle.machine.specs.Outcome.{method_at}
+use Rattle.linking.specs.Methods.{method_at}
 use Rattle.code_flow.specs.declared.scanning.Site.{Site}
 use Rattle.code_flow.specs.declared.scanning.Sites.{Sites}
 use Rattle.code_flow.specs.declared.scanning.Scan.{Scan}

@@ -3,3 +3,4 @@ pub mod References
 pub mod Calls
 pub mod Members
 pub mod TargetList
+pub mod Methods

@@ -5,16 +5,16 @@ use Rattle.nested_runs.specs.Nest.{Nest, base, stays}
 use Rattle.nested_runs.proofs.Nests.{nest_at, nest_moves, nest_starts, nest_returns}
 use Rattle.world.specs.declared.member.MemberId.{MemberId}
 use Rattle.class_hierarchy.specs.World.{World}
-use Rattle.machine.specs.declared.values.Value.{Value}
-use Rattle.machine.specs.declared.frames.Frame.{Frame}
-use Rattle.machine.specs.declared.configuration.Here.{Here}
-use Rattle.machine.specs.declared.configuration.State.{State}
-use Rattle.machine.specs.declared.configuration.Status.{Status}
-use Rattle.machine.specs.declared.configuration.Status.TheVariants as statuses
-use Rattle.machine.specs.declared.configuration.Event.TheVariants as events
-use Rattle.machine.specs.Outcome.{Effect, Goes, Wraps, Throws, Stops, Outcome, Stays, Enters, Leaves}
-use Rattle.machine.specs.Step.{Step, outcome_of, resumed, return_to, leave, settle, step_from, step_of}
-use Rattle.machine.specs.Entry.{IsEntry}
+use Rattle.frames.specs.declared.value.Value.{Value}
+use Rattle.frames.specs.declared.frame.Frame.{Frame}
+use Rattle.frames.specs.declared.here.Here.{Here}
+use Rattle.steps.specs.declared.configuration.State.{State}
+use Rattle.steps.specs.declared.configuration.Status.{Status}
+use Rattle.steps.specs.declared.configuration.Status.TheVariants as statuses
+use Rattle.steps.specs.declared.configuration.Event.TheVariants as events
+use Rattle.frames.specs.Outcome.{Goes, Throws, Stops, Outcome, Enters, Leaves}
+use Rattle.steps.specs.Step.{Step, outcome_of, resumed, return_to, leave, settle, step_from, step_of}
+use Rattle.entries.specs.Entry.{IsEntry}
 use Rattle.machine.specs.Run.{IsRun, Continues, IsUnwrapped}
 use Rattle.machine.specs.Moment.{cost_of, MayGo, WaitsAs, activations, AreWaiting, IsSpent, Moment, IsCounted}
 
@@ -61,19 +61,19 @@ leave_moment w weights unwrapped first before value (a ∷ waiting) (caller ∷ 
     return_moment w weights unwrapped first before value a waiting caller callers (resumed w caller value) all made waits.0 waits.1 nest refl
 
 -- a step that goes on in the frame
-move_moment : (w : World) (weights : ℕ → ℕ) (unwrapped : Bool) (first before : State) (effect : Effect) (here : Here) → MayGo unwrapped effect
-    → outcome_of w before.here ≡ Stays effect here → Open w weights unwrapped first before
+move_moment : (w : World) (weights : ℕ → ℕ) (unwrapped : Bool) (first before : State) (wraps : Bool) (here : Here) → MayGo unwrapped wraps
+    → outcome_of w before.here ≡ Goes wraps here → Open w weights unwrapped first before
     → Moment w weights unwrapped first (record { here = here; callers = before.callers; spent = before.spent + cost_of w weights before.here; status = statuses.Running })
-move_moment w weights unwrapped first before effect here may made o =
+move_moment w weights unwrapped first before wraps here may made o =
     record {
       waiting = o.waiting;
       waits = o.waits;
       cost = before.spent + cost_of w weights before.here;
-      nest = nest_moves o.nest (record { effect = effect; goes = may; makes = made; costs = refl });
+      nest = nest_moves o.nest (record { wraps = wraps; goes = may; makes = made; costs = refl });
       spent = refl;
     }
 
-may_wrap : (unwrapped : Bool) → (unwrapped ≡ true → ⊥) → MayGo unwrapped Wraps
+may_wrap : (unwrapped : Bool) → (unwrapped ≡ true → ⊥) → MayGo unwrapped true
 may_wrap true not = absurd (not refl)
 may_wrap false not = tt
 
@@ -81,12 +81,12 @@ may_wrap false not = tt
 settle_moment : (w : World) (weights : ℕ → ℕ) (unwrapped : Bool) (first before : State) (outcome : Outcome) → outcome_of w before.here ≡ outcome
     → Open w weights unwrapped first before → (unwrapped ≡ true → (settle w (cost_of w weights before.here) before outcome).0 ≢ events.Wrapped)
     → Moment w weights unwrapped first (settle w (cost_of w weights before.here) before outcome).1
-settle_moment w weights unwrapped first before (Stays Goes here) made o counts = move_moment w weights unwrapped first before Goes here tt made o
-settle_moment w weights unwrapped first before (Stays Wraps here) made o counts =
-    move_moment w weights unwrapped first before Wraps here (may_wrap unwrapped (λ on. counts on refl)) made o
-settle_moment w weights unwrapped first before (Stays (Throws k) here) made o counts =
-    record { waiting = o.waiting; waits = o.waits; cost = before.spent; nest = o.nest; spent = ((here, made), refl) }
-settle_moment w weights unwrapped first before (Stays (Stops k) here) made o counts =
+settle_moment w weights unwrapped first before (Goes false here) made o counts = move_moment w weights unwrapped first before false here tt made o
+settle_moment w weights unwrapped first before (Goes true here) made o counts =
+    move_moment w weights unwrapped first before true here (may_wrap unwrapped (λ on. counts on refl)) made o
+settle_moment w weights unwrapped first before (Throws what) made o counts =
+    record { waiting = o.waiting; waits = o.waits; cost = before.spent; nest = o.nest; spent = ((what, made, refl), refl) }
+settle_moment w weights unwrapped first before (Stops k) made o counts =
     record { waiting = o.waiting; waits = o.waits; cost = before.spent; nest = o.nest; spent = refl }
 settle_moment w weights unwrapped first before (Enters caller callee) made o counts =
     record {

@@ -1,17 +1,2 @@
-pub mod Numbers
-pub mod Words
-pub mod Types
-pub mod Heap
-pub mod Outcome
-pub mod Computing
-pub mod Change
-pub mod Calling
-pub mod Step
-pub mod Row
-pub mod Entry
 pub mod Run
 pub mod Moment
-pub mod EnteringCells
-pub mod EnteringHeap
-pub mod Stepping
-pub mod Entering

@@ -3,15 +3,17 @@ use Rattle.std.specs.Prelude.{◌≡◌, ℕ, ◌+◌, Bool, true, false, List, 
 use Rattle.nested_runs.specs.Nest.{Machine, Nest}
 use Rattle.world.specs.declared.member.MemberId.{MemberId}
 use Rattle.class_hierarchy.specs.World.{World}
-use Rattle.machine.specs.declared.values.Value.{Value}
-use Rattle.machine.specs.declared.frames.Frame.{Frame}
-use Rattle.machine.specs.declared.configuration.Here.{Here}
-use Rattle.machine.specs.declared.configuration.State.{State}
-use Rattle.machine.specs.declared.configuration.Status.{Status}
-use Rattle.machine.specs.declared.configuration.Status.TheVariants as statuses
-use Rattle.machine.specs.Heap.{Cells}
-use Rattle.machine.specs.Outcome.{Effect, Goes, Wraps, Throws, Stops, Stays, Enters, Leaves}
-use Rattle.machine.specs.Step.{standing_at, outcome_of, weight_of, resumed, in_frame}
+use Rattle.frames.specs.declared.value.Value.{Value}
+use Rattle.frames.specs.declared.frame.Frame.{Frame}
+use Rattle.frames.specs.declared.here.Here.{Here}
+use Rattle.steps.specs.declared.configuration.State.{State}
+use Rattle.steps.specs.declared.configuration.Status.{Status}
+use Rattle.steps.specs.declared.configuration.Status.TheVariants as statuses
+use Rattle.frames.specs.Heap.{Cells}
+use Rattle.frames.specs.declared.failure.Raised.{Raised}
+use Rattle.frames.specs.Outcome.{Goes, Throws, Enters, Leaves, in_frame}
+use Rattle.frames.specs.Standing.{standing_at}
+use Rattle.steps.specs.Step.{outcome_of, weight_of, resumed, kind_of}
 use Rattle.machine.specs.Run.{IsRun, IsUnwrapped}
 
 -- ---- the machine of activations
@@ -27,17 +29,15 @@ abbrev pub cost_of : World → (ℕ → ℕ) → Here → ℕ
 cost_of w weights a = weight_of weights (standing_at w a.frame)
 
 -- an activation goes on; where unwrapped ones alone are asked for, with an exact result
-abbrev pub MayGo : Bool → Effect → Type 0
-MayGo unwrapped Goes = Unit {0}
-MayGo true Wraps = ⊥
-MayGo false Wraps = Unit {0}
-MayGo unwrapped (Throws k) = ⊥
-MayGo unwrapped (Stops k) = ⊥
+abbrev pub MayGo : Bool → Bool → Type 0
+MayGo unwrapped false = Unit {0}
+MayGo true true = ⊥
+MayGo false true = Unit {0}
 
 pub record Moves (w : World) (weights : ℕ → ℕ) (unwrapped : Bool) (a : Here) (k : ℕ) (b : Here) : Type 0 where
-  pub effect : Effect
-  pub goes : MayGo unwrapped effect
-  pub makes : outcome_of w a ≡ Stays effect b
+  pub wraps : Bool
+  pub goes : MayGo unwrapped wraps
+  pub makes : outcome_of w a ≡ Goes wraps b
   pub costs : k ≡ cost_of w weights a
 
 -- a call starts an activation of what it enters
@@ -92,7 +92,7 @@ IsSpent w weights waiting cost now statuses.Running = now.spent ≡ cost
 IsSpent w weights waiting cost now statuses.Ended =
     (waiting ≡ []) × ((value : Option Value) × (outcome_of w now.here ≡ Leaves value)) × (now.spent ≡ cost + cost_of w weights now.here)
 IsSpent w weights waiting cost now (statuses.Thrown k) =
-    ((at : Here) × (outcome_of w now.here ≡ Stays (Throws k) at)) × (now.spent ≡ cost + cost_of w weights now.here)
+    ((what : Raised) × (outcome_of w now.here ≡ Throws what) × (k ≡ kind_of what)) × (now.spent ≡ cost + cost_of w weights now.here)
 IsSpent w weights waiting cost now (statuses.Stopped k) = now.spent ≡ cost
 
 -- A configuration that a run came to: the nest of its open activations. Those that wait stand as they stood before

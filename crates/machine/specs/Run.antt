@@ -2,10 +2,10 @@
 use Rattle.std.specs.Prelude.{◌≡◌, ◌≢◌, ℕ, ◌<◌, ◌≤◌, List, [], ◌∷◌, Some, slice_get}
 use Rattle.world.specs.declared.member.MemberId.{MemberId}
 use Rattle.class_hierarchy.specs.World.{World}
-use Rattle.machine.specs.declared.configuration.State.{State}
-use Rattle.machine.specs.declared.configuration.Event.TheVariants as events
-use Rattle.machine.specs.Step.{Step, step_of}
-use Rattle.machine.specs.Entry.{IsEntry}
+use Rattle.steps.specs.declared.configuration.State.{State}
+use Rattle.steps.specs.declared.configuration.Event.TheVariants as events
+use Rattle.steps.specs.Step.{Step, step_of}
+use Rattle.entries.specs.Entry.{IsEntry}
 
 -- each next configuration is a step from the one before
 abbrev pub Continues : World → (ℕ → ℕ) → State → List State → Type 0

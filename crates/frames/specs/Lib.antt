@@ -1,0 +1,9 @@
+pub mod Words
+pub mod Tops
+pub mod Types
+pub mod Slots
+pub mod Places
+pub mod Heap
+pub mod Kept
+pub mod Standing
+pub mod Outcome

@@ -1,6 +1,0 @@
-use Rattle.std.proofs.Common.{◌≡◌, take}
-use Rattle.machine.specs.Entry.{words_of_values}
-use Rattle.machine.proofs.entering.words_of_values.Given as goal
-
-abbrev pub invariant-loop-value : goal.invariant-loop-value
-invariant-loop-value l = l.words.items ≡ words_of_values (take l.value-index l.arguments)

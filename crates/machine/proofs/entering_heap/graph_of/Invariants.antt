@@ -1,6 +1,0 @@
-use Rattle.std.proofs.Common.{◌≡◌, length}
-use Rattle.machine.specs.EnteringHeap.{IsGraphBelow}
-use Rattle.machine.proofs.entering_heap.graph_of.Given as goal
-
-abbrev pub invariant-loop-a : goal.invariant-loop-a
-invariant-loop-a l = record { nodes : length l.g ≡ length l.heap; edges : IsGraphBelow l.heap l.g l.a }

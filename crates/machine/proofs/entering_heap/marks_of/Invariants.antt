@@ -1,6 +1,0 @@
-use Rattle.std.proofs.Common.{◌≡◌, length}
-use Rattle.machine.specs.EnteringHeap.{AreMarks}
-use Rattle.machine.proofs.entering_heap.marks_of.Given as goal
-
-abbrev pub invariant-loop-b : goal.invariant-loop-b
-invariant-loop-b l = record { count : length l.marks.items ≡ l.b; marks : AreMarks l.w l.heap l.g l.marks.items }

@@ -1,5 +1,0 @@
-use Rattle.machine.proofs.Steps.{step_spends}
-use Rattle.machine.proofs.laws.at_most_one_step.Goals as goal
-
-pub returns-clause-grows : goal.returns-clause-grows
-returns-clause-grows c = step_spends

@@ -1,0 +1,11 @@
+pub mod Objects
+pub mod After
+pub mod Classes
+pub mod Arrays
+pub mod Fields
+pub mod Casts
+pub mod ArrayCases
+pub mod FieldCases
+pub mod CastCases
+pub mod HeapChanges
+pub mod inside

@@ -1,0 +1,5 @@
+pub mod Arguments
+pub mod Rows
+pub mod Growing
+pub mod Steps
+pub mod Settling

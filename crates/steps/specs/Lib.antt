@@ -1,0 +1,4 @@
+pub mod Calling
+pub mod Step
+pub mod Row
+pub mod inside

@@ -1,7 +1,9 @@
 //! Bounds, their values and their texts. A bound is written with its parts in front: a number; `nat:2,0,1/3` with the
 //! coefficients, the constant and the divisor; `pow:2:1,0/1` and `geo:2:1,0/1` with the base in front of these; `sum:2`, `prod:2`
-//! and `max:2` with how many of the bounds in front are taken.
+//! and `max:2` with how many of the bounds in front are taken. A case is such a bound and sizes behind `at`, or the word
+//! `normal` and a bound.
 
+use bound_forms::{BoundFault, normal};
 use bound_terms::{Base, Bound, Nat, value};
 use bound_text::print;
 use case_texts::Case;
@@ -104,13 +106,39 @@ fn tell(case: &mut Case<'_>, bound: &Bound, sizes: &[i128]) {
     put_printed(case, bound);
 }
 
-pub fn answer(case: &mut Case<'_>) {
-    let text = case.until(" at");
-    let bound = bound_in(case, text);
-    let sizes = case.rest();
+/// The value of the bound in front at the sizes behind, and the bound's text.
+fn answer_value(case: &mut Case<'_>, text: &str) {
+    let (front, sizes) = case.halves(text, " at");
+    let bound = bound_in(case, front);
     let sizes = sizes_of(case, sizes);
     match bound {
         Some(bound) => tell(case, &bound, &sizes),
         None => case.malformed("a case has a bound"),
+    }
+}
+
+/// The text of the bound's normal form, or the limit that it passes.
+fn tell_normal(case: &mut Case<'_>, bound: Bound) {
+    match normal(case.alloc(), bound) {
+        Ok(form) => put_printed(case, &form),
+        Err(BoundFault::Monomials) => case.put(" too many monomials"),
+        Err(BoundFault::Coefficient) => case.put(" too great a coefficient"),
+        Err(BoundFault::Memory) => case.put(" no memory"),
+    }
+}
+
+fn answer_normal(case: &mut Case<'_>, text: &str) {
+    case.put("normal");
+    match bound_in(case, text) {
+        Some(bound) => tell_normal(case, bound),
+        None => case.malformed("a case has a bound"),
+    }
+}
+
+pub fn answer(case: &mut Case<'_>) {
+    let text = case.rest();
+    match text.split_once("normal ") {
+        Some((_, bound)) => answer_normal(case, bound),
+        None => answer_value(case, text),
     }
 }

@@ -5,12 +5,12 @@
 
 ghost use Rattle.std.specs.Prelude.{◌≢◌, ◌<◌, ◌^◌, length, IfSome, AllPairs};
 
-use crate::given::{class_name, name_of, shown, world_of};
 use crate::values::{put_value, values_of};
 use case_texts::Case;
 use class_pool::Text;
 use machine::{Cell, Heap, Value};
 use world::{MemberId, World};
+use world_cases::{class_name, name_of, shown, world_of};
 
 /// How many objects and arrays a case has at most.
 const MOST_CELLS: usize = 1000;

@@ -1,16 +1,13 @@
-//! What cases on worlds, the machine, the code that is reached and its costs are answered, each subject in a module of its own.
+//! What cases on the machine, the code that is reached and its costs are answered, each subject in a module of its own.
 #![tactic(auto)]
 
 mod counters;
-mod entries;
-mod frames;
-mod given;
+mod entry;
 mod heaps;
-mod hierarchies;
 mod prices;
-mod steps;
+mod runs;
 mod values;
-mod worlds;
+mod words;
 
 use case_texts::Case;
 
@@ -18,9 +15,9 @@ use case_texts::Case;
 fn answer_runs(subject: &str, case: &mut Case<'_>) -> bool {
     match subject {
         "counters" => counters::answer(case),
-        "entries" => entries::answer(case),
-        "frames" => frames::answer(case),
-        "steps" => steps::answer(case),
+        "entries" => entry::answer(case),
+        "frames" => words::answer(case),
+        "steps" => runs::answer(case),
         _ => return false,
     }
     true
@@ -30,9 +27,7 @@ fn answer_runs(subject: &str, case: &mut Case<'_>) -> bool {
 pub fn answer(subject: &str, case: &mut Case<'_>) -> bool {
     match subject {
         "heaps" => heaps::answer(case),
-        "hierarchies" => hierarchies::answer(case),
         "prices" => prices::answer(case),
-        "worlds" => worlds::answer(case),
         _ => return answer_runs(subject, case),
     }
     true

@@ -3,7 +3,6 @@
 
 ghost use Rattle.call_costs.specs.Knowing.{IsEachOnce};
 
-use crate::given::{class_name, put_method, target_of, world_of};
 use call_costs::{CostFault, Costs, costs};
 use case_texts::Case;
 use class_pool::Target;
@@ -11,6 +10,7 @@ use code_flow::{FlowFault, Planned, Program, flow, flows_are_programs};
 use cost_model::CostModel;
 use op_table::Construct;
 use world::{MemberId, World};
+use world_cases::{class_name, put_method, target_of, world_of};
 
 fn put_unsupported(
     case: &mut Case<'_>,

@@ -8,7 +8,7 @@ use lin_rows::{Comb, CombFault, Lin, Mults, Point, Row, Sequence, combine, holds
 use q128::{Q, TooWide};
 use std::alloc::AllocError;
 
-fn rows_of(case: &mut Case<'_>, text: &str) -> Sequence<Row> {
+pub fn rows_of(case: &mut Case<'_>, text: &str) -> Sequence<Row> {
     let mut rows = Sequence::new(case.alloc());
     for part in text.split(',') {
         if let Some(lin) = lin_of(case, part, ' ') {

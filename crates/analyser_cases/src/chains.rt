@@ -1,6 +1,6 @@
 //! What the program answers to the first method of a chain of callers, each of which calls the next, once or twice.
 
-use crate::subjects::programs::{shelf_with, tell};
+use crate::programs::{shelf_with, tell};
 use case_texts::Case;
 use case_texts::texts::words_of;
 use ports::MemorySink;

@@ -1,6 +1,6 @@
 //! What a shelf in memory answers to fetches, and what it then counts.
 
-use crate::subjects::programs::add_file;
+use crate::files::add_file;
 use case_texts::Case;
 use case_texts::texts::put_text;
 use class_pool::{Bytes, Text};

@@ -1,9 +1,10 @@
 //! What the program answers to words, on files that are edits of one that is given, with an outside that fails.
 
-use crate::subjects::programs::{add_file, tell};
+use crate::programs::tell;
 use case_texts::Case;
 use case_texts::texts::{bytes_of, words_of};
 use class_pool::{Bytes, Text};
+use outside_cases::add_file;
 use ports::{MemoryShelf, MemorySink};
 
 /// What stands around a question: the files, the fetches that fail, and the calls of the sink that fail.

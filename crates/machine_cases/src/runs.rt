@@ -1,13 +1,13 @@
 //! Runs of methods of given classes, step by step to the end: a method, its arguments, the word `in`, and the
 //! classes' names. The answer tells each step that wrapped, how the run ended, and how all stands then.
 
-use crate::entries::entered;
-use crate::given::{put_method, world_of};
+use crate::entry::entered;
 use crate::values::put_value_or_none;
 use case_texts::Case;
 use cost_model::CostModel;
 use machine::{Event, Stack, State, Status, Stop, Thrown, Value};
 use world::World;
+use world_cases::{put_method, world_of};
 
 /// How many steps a run has at most, and how much it spends, and how many objects it has.
 const MOST: u32 = 1000;

@@ -1,6 +1,6 @@
 //! What the words of a command line ask for, or which of them is wrong first.
 
-use crate::subjects::targets::put_target;
+use crate::targets::put_target;
 use case_texts::Case;
 use case_texts::texts::words_of;
 use class_pool::Target;

@@ -5,16 +5,8 @@ use analyser::{costa, exit_code};
 use case_texts::Case;
 use case_texts::assembler::assembled;
 use case_texts::texts::{put_text, words_of};
-use class_pool::{Bytes, Sequence, Text};
+use outside_cases::add_file;
 use ports::{MemoryShelf, MemorySink};
-
-/// Adds a file.
-pub fn add_file(case: &mut Case<'_>, files: &mut Vec<(Text, Bytes)>, path: &str, bytes: Vec<u8>) {
-    let path = Text::from_slice(case.alloc(), path.as_bytes());
-    if let Some(path) = case.made(path) {
-        case.add(files, (path, Sequence::from(bytes)));
-    }
-}
 
 /// A shelf with the files of these classes, which are parted by empty lines.
 pub fn shelf_with(case: &mut Case<'_>, classes: &str) -> MemoryShelf {

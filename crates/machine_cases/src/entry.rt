@@ -1,12 +1,12 @@
 //! With which arguments a method of given classes is entered, and how its run begins: a method `CLASS.NAME:DESCRIPTOR`, its
 //! arguments, the word `in`, and the classes' names. The answer has the words of the locals, and the values of all statics.
 
-use crate::given::{target_of, world_of};
 use crate::heaps::heap_of;
 use crate::values::{put_value, put_value_or_none, values_of};
 use case_texts::Case;
 use machine::{EnterFault, Locals, State, enter};
 use world::World;
+use world_cases::{target_of, world_of};
 
 /// Why a method isn't entered.
 fn put_fault(case: &mut Case<'_>, fault: EnterFault) {

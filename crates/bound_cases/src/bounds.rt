@@ -3,7 +3,8 @@
 //! and `max:2` with how many of the bounds in front are taken. A case is such a bound and sizes behind `at`, or the word
 //! `normal` and a bound.
 
-use bound_forms::{BoundFault, normal};
+use bound_forms::BoundFault;
+use bound_normal::normal;
 use bound_terms::{Base, Bound, Nat, value};
 use bound_text::print;
 use case_texts::Case;

@@ -22,7 +22,7 @@ number_is (pos m) (negsuc n) s e = absurd (cc)
 number_is (negsuc m) (pos n) s e = absurd (cc)
 number_is (negsuc m) (negsuc n) s e = let f : m ≡ n = omega (arith, e) in ap negsuc f
 
-zero_is : (z : ℤ) → unsigned_abs z ≡ 0 → z ≡ pos 0
+pub zero_is : (z : ℤ) → unsigned_abs z ≡ 0 → z ≡ pos 0
 zero_is (pos m) e = ap pos e
 zero_is (negsuc m) e = absurd (omega (arith, e))
 

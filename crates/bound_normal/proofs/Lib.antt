@@ -1,5 +1,10 @@
 pub mod Divisors
-pub mod Normal
+pub mod Shaping
 pub mod Digits
 pub mod Linears
 pub mod Expressions
+pub mod Telling
+pub mod Floors
+pub mod Amounts
+pub mod Values
+pub mod Again

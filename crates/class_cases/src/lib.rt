@@ -2,6 +2,7 @@
 #![tactic(auto)]
 
 mod actions;
+mod blocks;
 mod byte_lists;
 mod classfiles;
 mod constructs;
@@ -24,6 +25,7 @@ use case_texts::Case;
 fn answer_code(subject: &str, case: &mut Case<'_>) -> bool {
     match subject {
         "actions" => actions::answer(case),
+        "blocks" => blocks::answer(case),
         "constructs" => constructs::answer(case),
         "instructions" => instructions::answer(case),
         "opcodes" => opcodes::answer(case),

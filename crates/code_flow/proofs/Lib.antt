@@ -15,3 +15,5 @@ mod Firsts
 mod Checks
 mod Orders
 pub mod Founded
+mod InOrder
+mod FirstFaults

@@ -32,6 +32,10 @@ unfoldable pub with_new : List MemberId → List MemberId → List MemberId
 with_new ms [] = ms
 with_new ms (t ∷ ts) = with_new (if is_among ms t then ms else ms ++ t ∷ []) ts
 
+-- the methods of a list, each once, where it stands first
+abbrev pub distinct : List MemberId → List MemberId
+distinct ms = with_new [] ms
+
 abbrev pub listed_then : (List MemberId → List MemberId) → World → List MemberId → Option MemberId → List MemberId
 listed_then others w ms None = ms
 listed_then others w ms (Some m) = others (with_new ms (callees w m))

@@ -1,5 +1,5 @@
 -- What is known of the code that a method reaches.
-use Rattle.std.specs.Prelude.{◌≡◌, ℕ, ◌<◌, ◌≤◌, ◌⊎◌, List, length, map, Some, Ok, Contains, AllPairs, slice_get}
+use Rattle.std.specs.Prelude.{◌≡◌, ℕ, ◌<◌, ◌≤◌, ◌⊎◌, List, ◌∷◌, length, map, flat_map, take, Some, Ok, Contains, AllPairs, slice_get}
 use Rattle.std.specs.List.{AllByRecursion}
 use Rattle.class_pool.specs.declared.target.Target.{Target}
 use Rattle.world.specs.declared.member.MemberId.{MemberId}
@@ -7,7 +7,7 @@ use Rattle.class_hierarchy.specs.World.{World}
 use Rattle.code_flow.specs.declared.program.Planned.{Planned}
 use Rattle.code_flow.specs.declared.program.Reached.{Reached}
 use Rattle.code_flow.specs.Judging.{Judged, places_of}
-use Rattle.code_flow.specs.Listing.{Leads, most_methods, reached}
+use Rattle.code_flow.specs.Listing.{Leads, most_methods, callees, distinct, reached}
 use Rattle.code_flow.specs.Flow.{method_named, planned, flow_of}
 
 -- no construct stands at the place
@@ -56,6 +56,11 @@ pub record IsListing (w : World) (m : MemberId) (ms : List MemberId) : Type 0 wh
 
 abbrev pub ListedAreReached : Type 0
 ListedAreReached = (w : World) (m : MemberId) → length (reached w m) ≤ most_methods → IsListing w m (reached w m)
+
+-- The listed methods are in order: the method, then those that the first one calls, then those that the second one calls,
+-- and so on for as many as are analysed, each where it stands first.
+abbrev pub ListedInOrder : Type 0
+ListedInOrder = (w : World) (m : MemberId) → reached w m ≡ distinct (m ∷ flat_map (callees w) (take most_methods (reached w m)))
 
 -- ---- an order for what is found from callees up
 

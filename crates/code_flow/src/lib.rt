@@ -16,5 +16,5 @@ mod scanning;
 
 pub use fault::FlowFault;
 pub use flowing::flow;
-pub use laws::{faults_are_founded, flows_are_programs, listed_are_reached};
+pub use laws::{faults_are_first, flows_are_programs, listed_are_reached};
 pub use program::{Planned, Program, Reached};

@@ -129,7 +129,7 @@ if_rest : {A : Type 0} (b : Bool) (x y : A) (xs : List A) → Contains xs y → 
 if_rest true x y xs there = contains_tail x xs y there
 if_rest false x y xs there = there
 
-own_is_at : (fields : List Field) (class place : ℕ) (m : MemberId) (type : List ℕ) → Contains (own_fields class place fields) (m, type) → IsAt fields class place m type
+pub own_is_at : (fields : List Field) (class place : ℕ) (m : MemberId) (type : List ℕ) → Contains (own_fields class place fields) (m, type) → IsAt fields class place m type
 own_is_at [] class place m type (k, inside, is) = absurd (omega arith)
 own_is_at (f ∷ fields) class place m type there =
     elim (if_cases (is_object_field f) (member class place, f.desc) (m, type) (own_fields class (suc place) fields) there) [

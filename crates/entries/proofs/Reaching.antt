@@ -30,14 +30,14 @@ pub reference_inside : (w : World) (heap : Cells) (type : List ℕ) (b : ℕ) �
 unfolding is_of_type
 reference_inside w heap type b is = instance_inside w type heap b is
 
-contains_field : (fields : List (MemberId × Value)) (value : Value) → Contains (map (λ f. f.1) fields) value → (m : MemberId) × Contains fields (m, value)
+pub contains_field : (fields : List (MemberId × Value)) (value : Value) → Contains (map (λ f. f.1) fields) value → (m : MemberId) × Contains fields (m, value)
 contains_field [] value (k, inside, is) = absurd (omega arith)
 contains_field (f ∷ fields) value (zero, inside, is) = (f.0, (0, omega arith, ap (λ (v : Value). (f.0, v)) is))
 contains_field (f ∷ fields) value (suc k, inside, is) =
     (let rest : (m : MemberId) × Contains fields (m, value) = contains_field fields value (k, omega arith, is) in
     (rest.0, (suc rest.1.0, omega (arith, rest.1.1), rest.1.2)))
 
-one_value : (fields : List (MemberId × Value)) (m : MemberId) (u v : Value) → AllPairs (λ f g. f.0 ≢ g.0) fields → Contains fields (m, u) → Contains fields (m, v) → u ≡ v
+pub one_value : (fields : List (MemberId × Value)) (m : MemberId) (u v : Value) → AllPairs (λ f g. f.0 ≢ g.0) fields → Contains fields (m, u) → Contains fields (m, v) → u ≡ v
 one_value fields m u v pairs (i, inside_i, is_i) (j, inside_j, is_j) =
     let at_j : slice_index_or fields j (m, u) ≡ (m, v) = get_or_default fields j (m, u) (m, v) inside_j ∙ is_j in
     elim (cases_eq i j) [
@@ -72,7 +72,7 @@ edge_refers heap g graph a b edge = ((graph.edges.edges a b).0 edge).1
 graph_ends : (heap : Cells) (g : List (List ℕ)) → IsGraph heap g → EndsAtNodes g
 graph_ends heap g graph = λ a b edge. (let inside : b < length heap = ((graph.edges.edges a b).0 edge).2 in omega (arith, graph.nodes))
 
-edge_reaches : (heap : Cells) (a b c : ℕ) → Contains (values_in (cell_at heap a)) (Ref b) → Reaches heap b c → Leads heap a c
+pub edge_reaches : (heap : Cells) (a b c : ℕ) → Contains (values_in (cell_at heap a)) (Ref b) → Reaches heap b c → Leads heap a c
 edge_reaches heap a b c there (inl same) = refers (subst (λ (k : ℕ). Contains (values_in (cell_at heap a)) (Ref k)) same there)
 edge_reaches heap a b c there (inr more) = through there more
 

@@ -4,6 +4,7 @@
 mod calling;
 mod deep;
 mod rules;
+mod unfoldings;
 mod writing;
 
 use case_texts::Case;
@@ -12,6 +13,10 @@ use case_texts::Case;
 pub fn answer(subject: &str, case: &mut Case<'_>) -> bool {
     if subject == "rules" {
         rules::answer(case);
+        return true;
+    }
+    if subject == "unfoldings" {
+        unfoldings::answer(case);
         return true;
     }
     false

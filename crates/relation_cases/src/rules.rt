@@ -10,7 +10,7 @@ use rule_terms::{Rule, RulePath, fold, paths};
 use std::alloc::{AllocError, Global};
 
 // A case has at most so many nodes.
-const MOST_NODES: u32 = 1000;
+const MOST_NODES: u32 = 10_000;
 
 fn put_path(case: &mut Case<'_>, path: &RulePath) {
     for item in path.as_slice() {
@@ -47,8 +47,8 @@ fn name_of(alloc: Global) -> Result<NodeName, AllocError> {
     Ok(NodeName { target, pc: None })
 }
 
-// Adds a node of these sizes.
-fn add_node(case: &mut Case<'_>, relations: &mut Relations, lengths: Vec<bool>) {
+/// Adds a node of these sizes.
+pub(crate) fn add_node(case: &mut Case<'_>, relations: &mut Relations, lengths: Vec<bool>) {
     if relations.nodes() >= MOST_NODES {
         case.malformed("too many nodes");
         return;
@@ -63,8 +63,8 @@ fn add_node(case: &mut Case<'_>, relations: &mut Relations, lengths: Vec<bool>) 
     }
 }
 
-// A node for each number, of so many sizes.
-fn nodes_of(case: &mut Case<'_>, text: &str) -> Relations {
+/// A node for each number, of so many sizes.
+pub(crate) fn nodes_of(case: &mut Case<'_>, text: &str) -> Relations {
     let mut relations = Relations::new(case.alloc());
     for word in text.split(',') {
         let count: usize = case.parsed(word);
@@ -74,6 +74,13 @@ fn nodes_of(case: &mut Case<'_>, text: &str) -> Relations {
         }
     }
     relations
+}
+
+/// Adds a rule to a node, which takes it.
+pub(crate) fn add_rule(case: &mut Case<'_>, relations: &mut Relations, node: u32, rule: Rule) {
+    if relations.add_rule(node, rule).is_err() {
+        case.malformed("a rule is refused");
+    }
 }
 
 // Adds a rule to a node, and tells what comes of it.

@@ -1,0 +1,12 @@
+pub mod Limits
+pub mod Combining
+pub mod Expanding
+pub mod Filling
+pub mod Trailing
+pub mod Numbering
+pub mod Counting
+pub mod Looking
+pub mod Ruling
+pub mod Calling
+pub mod Stepping
+pub mod Assembling

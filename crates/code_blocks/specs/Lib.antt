@@ -1,0 +1,5 @@
+pub mod Placing
+pub mod Successors
+pub mod Blocks
+pub mod Laws
+pub mod inside

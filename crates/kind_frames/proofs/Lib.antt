@@ -1,0 +1,3 @@
+pub mod KindOrder
+pub mod Pointwise
+pub mod Lattice

@@ -1,0 +1,4 @@
+pub mod Ends
+pub mod Leaving
+pub mod Layers
+pub mod History

@@ -1,0 +1,4 @@
+pub mod Regions
+pub mod Turns
+pub mod Tested
+pub mod Laws

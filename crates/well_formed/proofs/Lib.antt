@@ -1,0 +1,13 @@
+pub mod Words
+pub mod Numbers
+pub mod Pushes
+pub mod Fields
+pub mod Held
+pub mod Defaults
+pub mod Statics
+pub mod Arrays
+pub mod Objects
+pub mod Rows
+pub mod Steps
+pub mod Entered
+pub mod Files

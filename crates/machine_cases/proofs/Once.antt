@@ -1,5 +1,5 @@
 -- The methods of a program that is answered are there once each.
-use Rattle.std.proofs.Common.{◌≡◌, List, Option, Some, None, Result, Ok, refl, sym, ◌∙◌, ap}
+use Rattle.std.proofs.Common.{◌≡◌, List, Option, Some, None, Ok, refl, sym, ◌∙◌, ap}
 use Rattle.class_pool.specs.declared.target.Target.{Target}
 use Rattle.class_hierarchy.specs.World.{World}
 use Rattle.code_flow.specs.declared.program.Reached.{Reached}

@@ -4,6 +4,7 @@
 mod counters;
 mod entry;
 mod heaps;
+mod lengths;
 mod prices;
 mod runs;
 mod values;
@@ -27,6 +28,7 @@ fn answer_runs(subject: &str, case: &mut Case<'_>) -> bool {
 pub fn answer(subject: &str, case: &mut Case<'_>) -> bool {
     match subject {
         "heaps" => heaps::answer(case),
+        "lengths" => lengths::answer(case),
         "prices" => prices::answer(case),
         _ => return answer_runs(subject, case),
     }

@@ -1,5 +1,5 @@
 -- From what the parts of the call leave to its answer.
-use Rattle.std.proofs.Common.{◌≡◌, ◌≢◌, ℕ, suc, ◌<◌, ◌≤◌, Bool, true, false, List, [], ◌∷◌, length, Option, Some, None, Result, Ok, Err, refl, sym, ◌∙◌, ap, subst, inl, inr, arith}
+use Rattle.std.proofs.Common.{◌≡◌, ◌≢◌, ℕ, suc, ◌<◌, ◌≤◌, Bool, true, false, List, [], ◌∷◌, length, Option, Result, Ok, Err, refl, sym, ◌∙◌, ap, subst, inl, inr, arith}
 use Rattle.std.specs.Prelude.{IfOk, ◌^◌, nat_lt, replicate, Contains}
 use Rattle.std.proofs.lemmas.Bool.{lt-ltb, ltb-true}
 use Rattle.cost_model.specs.Costs.{cost_at}
@@ -10,14 +10,12 @@ use Rattle.class_hierarchy.specs.World.{World}
 use Rattle.world.specs.Tables.{HasMethod}
 use Rattle.code_flow.specs.declared.fault.FlowFault.{FlowFault}
 use Rattle.code_flow.specs.declared.fault.FlowFault.TheVariants.{Unsupported, Memory}
-use Rattle.code_flow.specs.declared.program.Reached.{Reached}
-use Rattle.code_flow.specs.Flow.{method_named, flow_at, flow_of}
+use Rattle.code_flow.specs.Plans.{Plan}
+use Rattle.code_flow.specs.Flow.{flow_of}
 use Rattle.code_flow.proofs.Founded.{founded}
-use Rattle.code_flow.proofs.ProgramLaws.{flow_is_program}
 use Rattle.code_flow.proofs.Mapped.{in_map, from_map, true_of}
 use Rattle.code_flow.proofs.Members.{or_true, contains_head, contains_tail}
 use Rattle.call_costs.specs.Costs.{cost_of, costs_of, most_cost, IsTooGreat}
-use Rattle.call_costs.specs.Knowing.{IsEachOnce}
 use Rattle.class_pool.specs.declared.target.Target.{Target}
 use Rattle.class_reader.specs.declared.class.ClassRecord.{ClassRecord}
 use Rattle.cost_words.specs.declared.command.PathWord.{PathWord}
@@ -107,21 +105,21 @@ some_great (c ∷ costs) e = elim (or_true (nat_lt most_cost c) (list_any (λ d.
 ]
 
 -- whether some method costs too much
-is_great : (program : List Reached) → IsTooGreat instruction_cost program → is_too_great program ≡ true
+is_great : (program : List Plan) → IsTooGreat instruction_cost program → is_too_great program ≡ true
 unfolding is_too_great
 is_great program (r, has, more) =
     great_any (costs_of instruction_cost program) (cost_of instruction_cost program r.method)
-    (in_map (λ (s : Reached). cost_of instruction_cost program s.method) program r has) more
+    (in_map (λ (s : Plan). cost_of instruction_cost program s.method) program r has) more
 
-not_great : (program : List Reached) (b : Bool) → is_too_great program ≡ b → ¬ IsTooGreat instruction_cost program → b ≡ false
+not_great : (program : List Plan) (b : Bool) → is_too_great program ≡ b → ¬ IsTooGreat instruction_cost program → b ≡ false
 unfolding is_too_great
 not_great program false e none = refl
 not_great program true e none =
     let some = some_great (costs_of instruction_cost program) e in
-    let from = from_map (λ (s : Reached). cost_of instruction_cost program s.method) program some.0 some.1 in
+    let from = from_map (λ (s : Plan). cost_of instruction_cost program s.method) program some.0 some.1 in
     absurd (none (from.0, from.1, subst (λ (n : ℕ). most_cost < n) (sym from.2) some.2))
 
-pub first_told : (table : List ℕ) (program : List Reached) (costs shown : List ℕ) → table ≡ replicate 202 1 → shown ≡ costs → costs ≡ costs_of (cost_at table) program
+pub first_told : (table : List ℕ) (program : List Plan) (costs shown : List ℕ) → table ≡ replicate 202 1 → shown ≡ costs → costs ≡ costs_of (cost_at table) program
     → ¬ IsTooGreat (cost_at table) program → first_cost shown ≡ bound_of program
 unfolding bound_of
 first_told table program costs shown counts same are small =
@@ -131,23 +129,11 @@ first_told table program costs shown counts same are small =
     let one : first_cost (costs_of instruction_cost program) ≡ bound_of program = rw fit refl in
     ap first_cost (same ∙ all) ∙ one
 
-pub passes_limit : (table : List ℕ) (program : List Reached) → table ≡ replicate 202 1 → IsTooGreat (cost_at table) program
+pub passes_limit : (table : List ℕ) (program : List Plan) → table ≡ replicate 202 1 → IsTooGreat (cost_at table) program
     → answers.Limit Coefficient most_cost ≡ bound_of program
 unfolding bound_of
 passes_limit table program counts great =
     let is : is_too_great program ≡ true = is_great program (subst (λ (t : List ℕ). IsTooGreat (cost_at t) program) counts great) in rw is refl
-
-from_name : (w : World) (target : Target) (program : List Reached) (m : Option MemberId) → method_named w target ≡ m → flow_of w target ≡ Ok program → flow_at w m ≡ Ok program
-unfolding flow_of
-from_name w target program m named flows = ap (flow_at w) (sym named) ∙ flows
-
-once_named : (w : World) (target : Target) (program : List Reached) (m : Option MemberId) → method_named w target ≡ m → flow_of w target ≡ Ok program → IsEachOnce program
-once_named w target program None named flows = let at = from_name w target program None named flows in absurd cc
-once_named w target program (Some m) named flows = (flow_is_program w target m program named flows).once
-
--- each method of a program is there once
-pub each_once : (w : World) (target : Target) (program : List Reached) → flow_of w target ≡ Ok program → IsEachOnce program
-each_once w target program flows = once_named w target program (method_named w target) refl flows
 
 -- a method in whose code a construct stands is there
 pub has_method : (w : World) (target : Target) (why : FlowFault) (m : MemberId) (pc : ℕ) (construct : Construct) → why ≡ Unsupported m pc construct

@@ -9,7 +9,7 @@ use Rattle.class_hierarchy.specs.World.{World, world_of}
 use Rattle.class_hierarchy.specs.Building.{IsWellBuilt, IsFault}
 use Rattle.code_flow.specs.declared.fault.FlowFault.{FlowFault}
 use Rattle.code_flow.specs.declared.fault.FlowFault.TheVariants as flow_faults
-use Rattle.code_flow.specs.declared.program.Reached.{Reached}
+use Rattle.code_flow.specs.Plans.{Plan}
 use Rattle.code_flow.specs.Listing.{most_methods}
 use Rattle.code_flow.specs.Flow.{method_named, planned, flow_at, flow_of}
 use Rattle.code_flow.specs.Program.{IsProgram, FlowsArePrograms}
@@ -72,17 +72,17 @@ pub record Known : Type 0 where
   pub bounded : CostsBoundRuns
   pub founded : FaultsAreFounded
 
-method_is : (w : World) (m : MemberId) (r : Reached) → Some r ≡ Some (planned w m) → r.method ≡ m
+method_is : (w : World) (m : MemberId) (r : Plan) → Some r ≡ Some (planned w m) → r.method ≡ m
 unfolding planned
-method_is w m r e = let same : r ≡ planned w m = cc in ap (λ (s : Reached). s.method) same
+method_is w m r e = let same : r ≡ planned w m = cc in ap (λ (s : Plan). s.method) same
 
 -- the first of a program's methods is the one that is asked for
-first_is : (w : World) (m : MemberId) (program : List Reached) → IsProgram w m program
+first_is : (w : World) (m : MemberId) (program : List Plan) → IsProgram w m program
     → first_cost (costs_of instruction_cost program) ≡ answers.Bound (cost_of instruction_cost program m)
 first_is w m [] is = let start = is.start in absurd cc
 first_is w m (r ∷ program) is = ap (λ (n : MemberId). answers.Bound (cost_of instruction_cost (r ∷ program) n)) (method_is w m r is.start)
 
-on_limit : (asked : Asked) (before after : ShelfState) (target : Target) (w : World) (m : MemberId) (program : List Reached) (great : Bool) (status : Status) → Known
+on_limit : (asked : Asked) (before after : ShelfState) (target : Target) (w : World) (m : MemberId) (program : List Plan) (great : Bool) (status : Status) → Known
     → Reads asked before target w → method_named w target ≡ Some m → flow_of w target ≡ Ok program → is_too_great program ≡ great
     → status ≡ (if great then answers.Limit Coefficient most_cost else first_cost (costs_of instruction_cost program)) → Cause asked before after status
 on_limit asked before after target w m program true status known reads named flows passes is =
@@ -98,7 +98,7 @@ on_limit asked before after target w m program false status known reads named fl
       bounded = known.bounded w m program instruction_cost reads.well_built whole;
     })
 
-on_program : (asked : Asked) (before after : ShelfState) (target : Target) (w : World) (program : List Reached) (named : Option MemberId) (status : Status) → Known
+on_program : (asked : Asked) (before after : ShelfState) (target : Target) (w : World) (program : List Plan) (named : Option MemberId) (status : Status) → Known
     → Reads asked before target w → method_named w target ≡ named → flow_at w named ≡ Ok program → flow_of w target ≡ Ok program → status ≡ bound_of program
     → Cause asked before after status
 unfolding bound_of
@@ -106,11 +106,11 @@ on_program asked before after target w program None status known reads is_named 
 on_program asked before after target w program (Some m) status known reads is_named at flows is =
     on_limit asked before after target w m program (is_too_great program) status known reads is_named flows refl is
 
-from_name : (w : World) (target : Target) (answer : Result (List Reached) FlowFault) → flow_of w target ≡ answer → flow_at w (method_named w target) ≡ answer
+from_name : (w : World) (target : Target) (answer : Result (List Plan) FlowFault) → flow_of w target ≡ answer → flow_at w (method_named w target) ≡ answer
 unfolding flow_of
 from_name w target answer e = e
 
-on_flow : (asked : Asked) (before after : ShelfState) (target : Target) (w : World) (status : Status) (answer : Result (List Reached) FlowFault) → Known
+on_flow : (asked : Asked) (before after : ShelfState) (target : Target) (w : World) (status : Status) (answer : Result (List Plan) FlowFault) → Known
     → Reads asked before target w → flow_of w target ≡ answer → status ≡ answer_by w target answer → Cause asked before after status
 on_flow asked before after target w status (Ok program) known reads flows is =
     on_program asked before after target w program (method_named w target) status known reads refl (from_name w target (Ok program) flows) flows is
@@ -394,7 +394,7 @@ is_unread asked before after result old new outcome decided target fs word offse
 
 -- ---- a program that is bounded
 
-same_answer : (w : World) (target : Target) (program : List Reached) → flow_of w target ≡ Ok program → is_too_great program ≡ false
+same_answer : (w : World) (target : Target) (program : List Plan) → flow_of w target ≡ Ok program → is_too_great program ≡ false
     → answer_on target w ≡ first_cost (costs_of instruction_cost program)
 unfolding answer_on bound_of
 same_answer w target program flows fit =
@@ -402,7 +402,7 @@ same_answer w target program flows fit =
     ap (answer_by w target) flows ∙ one
 
 pub is_bounded : (asked : Asked) (before after : ShelfState) (result : Status) (old new : SinkState) → Known → Outcome asked before after result old new → Decided
-    → (target : Target) (fs : List File) (classes : List ClassRecord) (m : MemberId) (program : List Reached) → AsksFor asked before target fs → AreClasses fs classes
+    → (target : Target) (fs : List File) (classes : List ClassRecord) (m : MemberId) (program : List Plan) → AsksFor asked before target fs → AreClasses fs classes
     → IsWellBuilt (world_of classes) → method_named (world_of classes) target ≡ Some m → flow_of (world_of classes) target ≡ Ok program
     → is_too_great program ≡ false → UnlessOutside (answers.Bound (cost_of instruction_cost program m)) result
 is_bounded asked before after result old new known outcome decided target fs classes m program asks are built named flows fit =

@@ -8,7 +8,7 @@ use Rattle.world.specs.declared.member.MemberId.{MemberId}
 use Rattle.class_hierarchy.specs.World.{World, world_of}
 use Rattle.class_hierarchy.specs.Building.{IsFault}
 use Rattle.code_flow.specs.declared.fault.FlowFault.TheVariants as flows
-use Rattle.code_flow.specs.declared.program.Reached.{Reached}
+use Rattle.code_flow.specs.Plans.{Plan}
 use Rattle.code_flow.specs.Listing.{most_methods}
 use Rattle.code_flow.specs.Flow.{method_named, flow_of}
 use Rattle.cost_words.specs.declared.command.Command.{Command}
@@ -40,7 +40,7 @@ pub data IsLimit (asked : Result Request Status) (shelf : ShelfState) (kind : Li
   files : (request : Request) → asked ≡ Ok request → most_files < length request.files → kind ≡ Files → number ≡ most_files → IsLimit asked shelf kind number
   bytes : (request : Request) → asked ≡ Ok request → IsTooBig shelf (paths_of request) → kind ≡ Bytes → number ≡ most_bytes → IsLimit asked shelf kind number
   too_many : (target : Target) (w : World) → Reads asked shelf target w → flow_of w target ≡ Err flows.TooManyMethods → kind ≡ Methods → number ≡ most_methods → IsLimit asked shelf kind number
-  too_great : (target : Target) (w : World) (program : List Reached) → Reads asked shelf target w → flow_of w target ≡ Ok program
+  too_great : (target : Target) (w : World) (program : List Plan) → Reads asked shelf target w → flow_of w target ≡ Ok program
       → is_too_great program ≡ true → kind ≡ Coefficient → number ≡ most_cost → IsLimit asked shelf kind number
 
 -- the shelf failed at the path of this word

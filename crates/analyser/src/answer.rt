@@ -1,6 +1,6 @@
 ghost use Rattle.std.specs.Prelude.{◌≡◌, IfOk};
 ghost use Rattle.world.specs.Tables.{HasMethod};
-ghost use Rattle.call_costs.specs.Knowing.{IsEachOnce};
+ghost use Rattle.code_flow.specs.Plans.{plans_of};
 ghost use Rattle.analyser.specs.Answer.{target_of, first_cost, bound_of, answer_on};
 
 use crate::{LimitKind, Status};
@@ -42,9 +42,8 @@ fn first_bound(costs: &[u128]) -> Status
 }
 
 // The bound of the first method of the program, where no method costs more than can be told.
-fn bound_of(alloc: Global, program: &Program) -> Result<Status, AllocError>
-    requires { IsEachOnce program.now }
-    ensures { IfOk result (λ status. status ≡ bound_of program.now) }
+fn bound_of(alloc: Global, program: &Program<'_>) -> Result<Status, AllocError>
+    ensures { IfOk result (λ status. status ≡ bound_of (plans_of program.now)) }
 {
     match costs(alloc, program, &CostModel::counting()) {
         Ok(costs) => Ok(first_bound(costs.as_slice())),

@@ -7,7 +7,7 @@ ghost use Rattle.class_hierarchy.specs.declared.fault.WorldFault.TheVariants.{Me
 ghost use Rattle.class_hierarchy.specs.World.{world_of};
 ghost use Rattle.class_hierarchy.specs.Building.{IsWellBuilt, IsFault};
 ghost use Rattle.world.specs.declared.member.MemberId as members;
-ghost use Rattle.code_flow.specs.declared.program.Reached as flowing;
+ghost use Rattle.code_flow.specs.Plans as flowing;
 ghost use Rattle.code_flow.specs.Flow.{method_named, flow_of};
 ghost use Rattle.call_costs.specs.Costs.{cost_of};
 ghost use Rattle.cost_words.specs.declared.fault.WordFault.TheVariants.{Wrong};
@@ -206,7 +206,7 @@ pub fn costa<F: Shelf, S: Sink>(
         → UnlessOutside (answer_on target (world_of classes)) result }
 
     // So where the code that the target reaches is analysed and keeps the limits, the answer is its cost.
-    ensures bounded { (target : asked_for.Target) (files : List fetched.File) (classes : List found.ClassRecord) (m : members.MemberId) (program : List flowing.Reached)
+    ensures bounded { (target : asked_for.Target) (files : List fetched.File) (classes : List found.ClassRecord) (m : members.MemberId) (program : List flowing.Plan)
         → AsksFor (request_of (words_of words.now)) (F.meaning shelf.old) target files → AreClasses files classes → IsWellBuilt (world_of classes)
         → method_named (world_of classes) target ≡ Some m → flow_of (world_of classes) target ≡ Ok program
         → is_too_great program ≡ false → UnlessOutside (Status.Bound (cost_of instruction_cost program m)) result }

@@ -22,9 +22,9 @@ use Rattle.steps.specs.Step.{outcome_of}
 use Rattle.steps.specs.Row as rows
 use Rattle.steps.specs.Row.{Row, RowAt}
 use Rattle.steps.proofs.Rows.{outcome_is_row}
-use Rattle.code_flow.specs.declared.program.Planned.{Planned}
-use Rattle.code_flow.specs.declared.program.Reached.{Reached}
-use Rattle.code_flow.specs.Placing.{Placed, placed, broken}
+use Rattle.code_flow.specs.Plans.{Planned, Plan}
+use Rattle.code_blocks.specs.declared.instruction.Placed.{Placed}
+use Rattle.code_blocks.specs.Placing.{placed, broken}
 use Rattle.code_flow.specs.Judging.{Judged, judged, judged_place, against_method, against_break, places_in, places_at, places_of}
 use Rattle.code_flow.specs.Listing.{targets_in}
 use Rattle.code_flow.specs.Flow.{planned_place, planned_in, planned}
@@ -33,11 +33,11 @@ use Rattle.call_costs.proofs.Placing.{OnPath, path_instr, path_at}
 use Rattle.call_costs.proofs.Stable.{the_method, found_method, listed_method}
 use Rattle.call_costs.proofs.Words.{AreKnown}
 
-abbrev pub IsListed : List Reached → MemberId → Type 0
-IsListed program m = Contains (map (λ (r : Reached). r.method) program) m
+abbrev pub IsListed : List Plan → MemberId → Type 0
+IsListed program m = Contains (map (λ (r : Plan). r.method) program) m
 
 -- the activation is one of a listed method, at an instruction, and its words are known
-pub record IsStanding (w : World) (program : List Reached) (a : Here) : Type 0 where
+pub record IsStanding (w : World) (program : List Plan) (a : Here) : Type 0 where
   pub listed : IsListed program a.frame.method
   pub code : Code
   pub has_code : code_at w a.frame.method ≡ Some code
@@ -47,14 +47,14 @@ pub record IsStanding (w : World) (program : List Reached) (a : Here) : Type 0 w
 
 -- ---- a listed method
 
-pub record IsOwn (w : World) (program : List Reached) (m : MemberId) : Type 0 where
-  pub reached : Reached
+pub record IsOwn (w : World) (program : List Plan) (m : MemberId) : Type 0 where
+  pub reached : Plan
   pub listed : Contains program reached
   pub of_method : reached.method ≡ m
   pub planned : reached ≡ planned w m
   pub found : the_method m program ≡ Some reached
 
-pub own_reached : (w : World) (first m : MemberId) (program : List Reached) → IsProgram w first program → IsListed program m → IsOwn w program m
+pub own_reached : (w : World) (first m : MemberId) (program : List Plan) → IsProgram w first program → IsListed program m → IsOwn w program m
 own_reached w first m program is listed =
     let r = listed_method m program listed in
     let there = found_method m program r.0 r.1 in
@@ -80,14 +80,14 @@ places_with w m code e =
     let method : Method = split.0 in
     (method, ap (places_at w m.class) split.1 ∙ ap (places_in w m.class method) split.2)
 
-places_free : (w : World) (first m : MemberId) (program : List Reached) → IsProgram w first program → IsListed program m → (place : Judged) → Contains (places_of w m) place → IsFree place
+places_free : (w : World) (first m : MemberId) (program : List Plan) → IsProgram w first program → IsListed program m → (place : Judged) → Contains (places_of w m) place → IsFree place
 places_free w first m program is listed place there =
     let own = own_reached w first m program is listed in
     let free : AllByRecursion IsFree (places_of w m) = subst (λ (n : MemberId). AllByRecursion IsFree (places_of w n)) own.of_method (is.free own.reached own.listed) in
     All-contains IsFree (places_of w m) place (All-from_recursion IsFree (places_of w m) free) there
 
 -- nothing stands against an instruction of it
-pub verdict_at : (w : World) (first m : MemberId) (program : List Reached) (code : Code) (p : Placed) → IsProgram w first program → IsListed program m → code_at w m ≡ Some code
+pub verdict_at : (w : World) (first m : MemberId) (program : List Plan) (code : Code) (p : Placed) → IsProgram w first program → IsListed program m → code_at w m ≡ Some code
     → Contains (placed code.bytes) p → (ts : List MemberId) × (judged w m.class code.bytes p ≡ Ok ts)
 verdict_at w first m program code p is listed has there =
     let places = places_with w m code has in
@@ -106,7 +106,7 @@ whole_by front (Some pc) free =
     absurd (let no : Err constructs.Opcode ≡ Ok is.0 = is.1 in cc)
 
 -- and its code isn't broken
-pub code_whole : (w : World) (first m : MemberId) (program : List Reached) (code : Code) → IsProgram w first program → IsListed program m → code_at w m ≡ Some code → broken code.bytes ≡ None
+pub code_whole : (w : World) (first m : MemberId) (program : List Plan) (code : Code) → IsProgram w first program → IsListed program m → code_at w m ≡ Some code → broken code.bytes ≡ None
 code_whole w first m program code is listed has =
     let places = places_with w m code has in
     let front = against_method places.0 code ++ map (judged_place w m.class code.bytes) (placed code.bytes) in
@@ -138,7 +138,7 @@ row_in {o = o} w a s (rows.stands t at row) is =
     subst (λ (x : Standing). Row w x a (action_of x.instr) o) same row
 
 -- the instruction, the methods that it can call, and what it makes
-pub record Plan (w : World) (program : List Reached) (a : Here) (code : Code) : Type 0 where
+pub record Current (w : World) (program : List Plan) (a : Here) (code : Code) : Type 0 where
   pub instr : Instr
   pub is : instr_at code.bytes a.frame.pc ≡ Ok instr
   pub targets : List MemberId
@@ -147,8 +147,8 @@ pub record Plan (w : World) (program : List Reached) (a : Here) (code : Code) : 
   pub stands : standing_at w a.frame ≡ Some (standing_on w a.frame method code instr)
   pub row : Row w (standing_on w a.frame method code instr) a (action_of instr) (outcome_of w a)
 
-pub plan_of : (w : World) (first : MemberId) (program : List Reached) (a : Here) → IsProgram w first program → (s : IsStanding w program a) → Plan w program a s.code
-plan_of w first program a is s =
+pub current_of : (w : World) (first : MemberId) (program : List Plan) (a : Here) → IsProgram w first program → (s : IsStanding w program a) → Current w program a s.code
+current_of w first program a is s =
     let i = path_instr s.code.bytes a.frame.pc s.path in
     let verdict = verdict_at w first a.frame.method program s.code (record { pc = a.frame.pc; instr = i.0 }) is s.listed s.has_code (path_at s.code.bytes a.frame.pc i.0 s.path i.1) in
     let stands = standing_is w a.frame s.code i.0 s.has_code i.1 in
@@ -163,15 +163,15 @@ plan_of w first program a is s =
     }
 
 -- the method calls each of them
-pub plan_calls : (w : World) (first : MemberId) (program : List Reached) (a : Here) (t : MemberId) → IsProgram w first program → (s : IsStanding w program a) → (p : Plan w program a s.code)
+pub current_calls : (w : World) (first : MemberId) (program : List Plan) (a : Here) (t : MemberId) → IsProgram w first program → (s : IsStanding w program a) → (p : Current w program a s.code)
     → Contains p.targets t → Calls program a.frame.method t
-plan_calls w first program a t is s p there =
+current_calls w first program a t is s p there =
     let m : MemberId = a.frame.method in
     let own = own_reached w first m program is s.listed in
     let place : Placed = record { pc = a.frame.pc; instr = p.instr } in
     let at : Contains (placed s.code.bytes) place = path_at s.code.bytes a.frame.pc p.instr s.path p.is in
     let instructions = map (planned_place w m.class s.code.bytes) (placed s.code.bytes) in
-    let same : own.reached.instructions ≡ instructions = ap (λ (r : Reached). r.instructions) own.planned ∙ own_instructions w m s.code s.has_code in
+    let same : own.reached.instructions ≡ instructions = ap (λ (r : Plan). r.instructions) own.planned ∙ own_instructions w m s.code s.has_code in
     let this : Planned = planned_place w m.class s.code.bytes place in
     record {
       caller = own.reached;

@@ -1,5 +1,5 @@
 -- At each moment a run of a program's method has spent at most the method's cost.
-use Rattle.std.proofs.Common.{◌≡◌, inl, inr, ℕ, ◌+◌, ◌<◌, ◌≤◌, false, List, [], ◌∷◌, length, Option, Some, None, Result, Ok, Err, refl, sym, ◌∙◌, ap, subst, arith, eq-zero-or-pos}
+use Rattle.std.proofs.Common.{◌≡◌, inl, inr, ℕ, ◌+◌, ◌<◌, ◌≤◌, false, List, [], ◌∷◌, length, Option, Some, None, Result, Ok, Err, refl, ◌∙◌, ap, arith, eq-zero-or-pos}
 use Rattle.std.specs.Prelude.{option_and_then, option_map, slice_get}
 use Rattle.std.specs.Result.{result_ok}
 use Rattle.class_reader.specs.declared.class.Method.{Method}
@@ -28,7 +28,7 @@ use Rattle.machine.specs.Run.{IsRun, CostsAtMost}
 use Rattle.machine.specs.Moment as moments
 use Rattle.machine.specs.Moment.{End, Moves, Starts, Ends, IsSpent, Moment, activations}
 use Rattle.machine.proofs.Moments.{at_moment}
-use Rattle.code_flow.specs.declared.program.Reached.{Reached}
+use Rattle.code_flow.specs.Plans.{Plan}
 use Rattle.code_flow.specs.Program.{IsProgram}
 use Rattle.call_costs.specs.Costs.{cost_of}
 use Rattle.call_costs.proofs.Standing.{Since, standing_kept}
@@ -45,14 +45,14 @@ spent_by w weights waiting cost now (statuses.Stopped k) is = omega (arith, is)
 
 -- ---- a method with instructions
 
-entry_left : (w : World) (weights : ℕ → ℕ) (m : MemberId) (program : List Reached) (first : State) → IsProgram w m program → (e : IsEntry w m first)
+entry_left : (w : World) (weights : ℕ → ℕ) (m : MemberId) (program : List Plan) (first : State) → IsProgram w m program → (e : IsEntry w m first)
     → left weights program w first.here ≡ cost_of weights program m
 unfolding left
 entry_left w weights m program first is e =
     ap (λ (s : State). left weights program w s.here) e.entered
     ∙ start_left weights program w m m e.code is (program_listed w m program is) (entry_code w m first e)
 
-moment_bounded : (w : World) (m : MemberId) (program : List Reached) (weights : ℕ → ℕ) (first now : State) → IsWellBuilt w → IsProgram w m program
+moment_bounded : (w : World) (m : MemberId) (program : List Plan) (weights : ℕ → ℕ) (first now : State) → IsWellBuilt w → IsProgram w m program
     → (e : IsEntry w m first) → 0 < length e.code.bytes → Moment w weights false first now → now.spent ≤ cost_of weights program m
 moment_bounded w m program weights first now well is e some moment =
     let stands = entry_stands w m program first is e some in
@@ -123,7 +123,7 @@ moment_stopped w m weights first now e nothing moment =
 
 -- ---- each moment
 
-run_bounded : (w : World) (m : MemberId) (program : List Reached) (weights : ℕ → ℕ) (run : List State) (moment : ℕ) (now : State) → IsWellBuilt w → IsProgram w m program
+run_bounded : (w : World) (m : MemberId) (program : List Plan) (weights : ℕ → ℕ) (run : List State) (moment : ℕ) (now : State) → IsWellBuilt w → IsProgram w m program
     → IsRun w weights m run → slice_get run moment ≡ Some now → now.spent ≤ cost_of weights program m
 run_bounded w m program weights [] moment now well is runs at = absurd runs
 run_bounded w m program weights (first ∷ later) moment now well is runs at =
@@ -134,5 +134,5 @@ run_bounded w m program weights (first ∷ later) moment now well is runs at =
       | inr some ↦ moment_bounded w m program weights first now well is e some here
     ]
 
-pub runs_bounded : (w : World) (m : MemberId) (program : List Reached) (weights : ℕ → ℕ) → IsWellBuilt w → IsProgram w m program → CostsAtMost w weights m (cost_of weights program m)
+pub runs_bounded : (w : World) (m : MemberId) (program : List Plan) (weights : ℕ → ℕ) → IsWellBuilt w → IsProgram w m program → CostsAtMost w weights m (cost_of weights program m)
 runs_bounded w m program weights well is = record { spent = λ run runs moment now at unwrapped. run_bounded w m program weights run moment now well is runs at }

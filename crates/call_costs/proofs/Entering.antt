@@ -19,9 +19,9 @@ use Rattle.entries.specs.Entry.{IsHeld, words_of_value, words_of_values, IsEntry
 use Rattle.machine.specs.Run.{IsRun}
 use Rattle.machine.specs.Moment.{Moment}
 use Rattle.machine.proofs.Moments.{at_moment}
-use Rattle.code_flow.specs.declared.program.Planned.{Planned}
-use Rattle.code_flow.specs.declared.program.Reached.{Reached}
-use Rattle.code_flow.specs.Placing.{Placed, placed}
+use Rattle.code_flow.specs.Plans.{Planned, Plan}
+use Rattle.code_blocks.specs.declared.instruction.Placed.{Placed}
+use Rattle.code_blocks.specs.Placing.{placed}
 use Rattle.code_flow.specs.Flow.{planned, planned_place}
 use Rattle.code_flow.specs.Program.{IsProgram}
 use Rattle.call_costs.specs.Standing.{IsSound, Stands, HasInstructions}
@@ -59,20 +59,20 @@ values_words w heap (value ∷ values) all =
     (value_words w heap value (all 0 value (omega arith)))
     (values_words w heap values (λ k d inside. all (suc k) d (omega arith)))
 
-first_listed : (w : World) (m : MemberId) (program : List Reached) → slice_get program 0 ≡ Some (planned w m) → IsListed program m
+first_listed : (w : World) (m : MemberId) (program : List Plan) → slice_get program 0 ≡ Some (planned w m) → IsListed program m
 unfolding planned
 first_listed w m [] e = absurd cc
 first_listed w m (r ∷ others) e =
     let same : r ≡ planned w m = cc in
-    subst (λ (n : MemberId). IsListed (r ∷ others) n) (ap (λ (x : Reached). x.method) same) (contains_head r.method (map (λ (x : Reached). x.method) others))
+    subst (λ (n : MemberId). IsListed (r ∷ others) n) (ap (λ (x : Plan). x.method) same) (contains_head r.method (map (λ (x : Plan). x.method) others))
 
-pub program_listed : (w : World) (m : MemberId) (program : List Reached) → IsProgram w m program → IsListed program m
+pub program_listed : (w : World) (m : MemberId) (program : List Plan) → IsProgram w m program → IsListed program m
 program_listed w m program is = first_listed w m program is.start
 
 pub entry_code : (w : World) (m : MemberId) (first : State) → (e : IsEntry w m first) → code_at w m ≡ Some e.code
 entry_code w m first e = ap (option_and_then (λ (method : Method). method.code)) e.declared ∙ e.has_code
 
-pub entry_stands : (w : World) (m : MemberId) (program : List Reached) (first : State) → IsProgram w m program → (e : IsEntry w m first) → 0 < length e.code.bytes
+pub entry_stands : (w : World) (m : MemberId) (program : List Plan) (first : State) → IsProgram w m program → (e : IsEntry w m first) → 0 < length e.code.bytes
     → IsStanding w program first.here
 entry_stands w m program first is e some =
     let listed = program_listed w m program is in
@@ -93,7 +93,7 @@ entry_stands w m program first is e some =
 
 -- ---- a moment
 
-pub moment_since : (w : World) (m : MemberId) (program : List Reached) (weights : ℕ → ℕ) (first now : State) → IsWellBuilt w → IsProgram w m program → IsStanding w program first.here
+pub moment_since : (w : World) (m : MemberId) (program : List Plan) (weights : ℕ → ℕ) (first now : State) → IsWellBuilt w → IsProgram w m program → IsStanding w program first.here
     → Moment w weights false first now → (start : Here) × Since w program start now.here
 moment_since w m program weights first now well is stands moment =
     let begun : Since w program first.here first.here = record { stands = stands; grows = grows_self w first.here.heap } in
@@ -106,7 +106,7 @@ word_sound w heap Pad known = tt
 word_sound w heap Null known = tt
 word_sound w heap (Ref r) known = λ c fields at. (known c fields at).1
 
-standing_told : (w : World) (m : MemberId) (program : List Reached) (a : Here) → IsProgram w m program → IsStanding w program a → Stands w program a
+standing_told : (w : World) (m : MemberId) (program : List Plan) (a : Here) → IsProgram w m program → IsStanding w program a → Stands w program a
 standing_told w m program a is s =
     let n : MemberId = a.frame.method in
     let own = own_reached w m n program is s.listed in
@@ -114,7 +114,7 @@ standing_told w m program a is s =
     let place : Placed = record { pc = a.frame.pc; instr = i.0 } in
     let at : Contains (placed s.code.bytes) place = path_at s.code.bytes a.frame.pc i.0 s.path i.1 in
     let this : Planned = planned_place w n.class s.code.bytes place in
-    let same : own.reached.instructions ≡ map (planned_place w n.class s.code.bytes) (placed s.code.bytes) = ap (λ (r : Reached). r.instructions) own.planned ∙ own_instructions w n s.code s.has_code in
+    let same : own.reached.instructions ≡ map (planned_place w n.class s.code.bytes) (placed s.code.bytes) = ap (λ (r : Plan). r.instructions) own.planned ∙ own_instructions w n s.code s.has_code in
     let sound = word_sound w a.heap in
     record {
       reached = own.reached;
@@ -127,7 +127,7 @@ standing_told w m program a is s =
       stack = recursion_from_All (IsSound w a.heap) a.frame.stack (All-weaker (IsKnown w a.heap) (IsSound w a.heap) sound a.frame.stack s.stack);
     }
 
-pub run_stands : (w : World) (m : MemberId) (program : List Reached) (weights : ℕ → ℕ) (run : List State) (moment : ℕ) (now : State)
+pub run_stands : (w : World) (m : MemberId) (program : List Plan) (weights : ℕ → ℕ) (run : List State) (moment : ℕ) (now : State)
     → IsWellBuilt w → IsProgram w m program → HasInstructions w m → IsRun w weights m run → slice_get run moment ≡ Some now → Stands w program now.here
 run_stands w m program weights [] moment now well is has runs at = absurd runs
 run_stands w m program weights (first ∷ later) moment now well is has runs at =

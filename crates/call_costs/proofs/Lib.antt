@@ -1,3 +1,4 @@
+mod Besides
 mod Stable
 mod Words
 mod Heaps

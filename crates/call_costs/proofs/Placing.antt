@@ -6,7 +6,8 @@ use Rattle.op_table.specs.declared.instr.Instr.{Instr}
 use Rattle.op_table.specs.declared.instr.OpFault.{OpFault}
 use Rattle.op_table.specs.Grammar.{instr_at}
 use Rattle.op_table.proofs.Agreeing.{instr-fits}
-use Rattle.code_flow.specs.Placing.{Placed, placed_then, placed_from, placed, broken_then, broken_from, broken}
+use Rattle.code_blocks.specs.declared.instruction.Placed.{Placed}
+use Rattle.code_blocks.specs.Placing.{placed_then, placed_from, placed, broken_then, broken_from, broken}
 
 -- ---- one step
 

@@ -20,9 +20,9 @@ use Rattle.steps.specs.Step.{weight_of}
 use Rattle.steps.specs.Calling.{new_frame}
 use Rattle.machine.specs.Moment as moments
 use Rattle.machine.specs.Moment.{End, MayGo, Moves, Starts, Ends, Resumes, IsSpent, Moment, activations}
-use Rattle.code_flow.specs.declared.program.Planned.{Planned}
-use Rattle.code_flow.specs.declared.program.Reached.{Reached}
-use Rattle.code_flow.specs.Placing.{Placed, placed_from, placed}
+use Rattle.code_flow.specs.Plans.{Planned, Plan}
+use Rattle.code_blocks.specs.declared.instruction.Placed.{Placed}
+use Rattle.code_blocks.specs.Placing.{placed_from, placed}
 use Rattle.code_flow.specs.Judging.{is_end, judged}
 use Rattle.code_flow.specs.Listing.{targets_in}
 use Rattle.code_flow.specs.Flow.{planned_place}
@@ -30,7 +30,7 @@ use Rattle.code_flow.specs.Program.{IsProgram}
 use Rattle.call_costs.specs.Costs.{greatest, cost_of_code, instructions_of, cost_of}
 use Rattle.call_costs.proofs.Stable.{cost_step, program_deep}
 use Rattle.call_costs.proofs.Placing.{behind, behind_is}
-use Rattle.call_costs.proofs.Activations.{IsListed, IsStanding, own_reached, own_instructions, plan_of, plan_calls}
+use Rattle.call_costs.proofs.Activations.{IsListed, IsStanding, own_reached, own_instructions, current_of, current_calls}
 use Rattle.call_costs.proofs.Standing.{Since, Over, move_stands, call_by, call_target, back_by}
 
 -- ---- the greatest of some costs
@@ -51,19 +51,19 @@ greatest_least (c ∷ costs) cost there =
 
 -- ---- what is left
 
-unfoldable pub left_in : (ℕ → ℕ) → List Reached → World → MemberId → ℕ → Option Code → ℕ
+unfoldable pub left_in : (ℕ → ℕ) → List Plan → World → MemberId → ℕ → Option Code → ℕ
 left_in weights program w m pc None = 0
 left_in weights program w m pc (Some code) = cost_of_code weights (cost_of weights program) (map (planned_place w m.class code.bytes) (behind code.bytes pc))
 
 -- the instructions of the activation's method from its pc on
-unfoldable pub left : (ℕ → ℕ) → List Reached → World → Here → ℕ
+unfoldable pub left : (ℕ → ℕ) → List Plan → World → Here → ℕ
 left weights program w a = left_in weights program w a.frame.method a.frame.pc (code_at w a.frame.method)
 
 rest_if : Bool → ℕ → ℕ
 rest_if true rest = 0
 rest_if false rest = rest
 
-code_first : (weights : ℕ → ℕ) (program : List Reached) (i : Planned) (is : List Planned)
+code_first : (weights : ℕ → ℕ) (program : List Plan) (i : Planned) (is : List Planned)
     → cost_of_code weights (cost_of weights program) (i ∷ is) ≡ weights i.instr.op + greatest (map (cost_of weights program) i.targets) + rest_if (is_end (action_of i.instr)) (cost_of_code weights (cost_of weights program) is)
 unfolding cost_of_code rest_if
 code_first weights program i is =
@@ -72,7 +72,7 @@ code_first weights program i is =
     elim (is_end (action_of i.instr)) as (λ (b : Bool). cost + (if b then 0 else rest) ≡ cost + rest_if b rest) [ true ↦ refl | false ↦ refl ]
 
 -- what comes next costs what is left behind the instruction
-left_at : (weights : ℕ → ℕ) (program : List Reached) (w : World) (m : MemberId) (pc : ℕ) (code : Code) (i : Instr) → instr_at code.bytes pc ≡ Ok i → (ts : List MemberId)
+left_at : (weights : ℕ → ℕ) (program : List Plan) (w : World) (m : MemberId) (pc : ℕ) (code : Code) (i : Instr) → instr_at code.bytes pc ≡ Ok i → (ts : List MemberId)
     → targets_in (judged w m.class code.bytes (record { pc = pc; instr = i })) ≡ ts
     → left_in weights program w m pc (Some code)
     ≡ weights i.op + greatest (map (cost_of weights program) ts) + rest_if (is_end (action_of i)) (left_in weights program w m (pc + i.len) (Some code))
@@ -86,7 +86,7 @@ left_at weights program w m pc code i is ts e =
     ∙ ap (λ (t : List MemberId). weights i.op + greatest (map (cost_of weights program) t) + rest_if (is_end (action_of i)) (cost_of_code weights (cost_of weights program) others)) e
 
 -- a method's first activation has its cost left
-pub start_left : (weights : ℕ → ℕ) (program : List Reached) (w : World) (first m : MemberId) (code : Code) → IsProgram w first program → IsListed program m → code_at w m ≡ Some code
+pub start_left : (weights : ℕ → ℕ) (program : List Plan) (w : World) (first m : MemberId) (code : Code) → IsProgram w first program → IsListed program m → code_at w m ≡ Some code
     → left_in weights program w m 0 (code_at w m) ≡ cost_of weights program m
 unfolding left_in
 start_left weights program w first m code is listed has =
@@ -95,8 +95,8 @@ start_left weights program w first m code is listed has =
     let all : length code.bytes - 0 ≡ length code.bytes = omega arith in
     let planned_all : List Planned = map (planned_place w m.class code.bytes) (placed code.bytes) in
     let instructions : instructions_of program m ≡ planned_all =
-    ap (λ (o : Option Reached). option_map_or (λ (r : Reached). r.instructions) o []) own.found
-    ∙ ap (λ (r : Reached). r.instructions) own.planned
+    ap (λ (o : Option Plan). option_map_or (λ (r : Plan). r.instructions) o []) own.found
+    ∙ ap (λ (r : Plan). r.instructions) own.planned
     ∙ own_instructions w m code has
     in
     ap (left_in weights program w m 0) has
@@ -104,15 +104,15 @@ start_left weights program w first m code is listed has =
     ∙ ap cost (sym instructions)
     ∙ sym (cost_step weights program m (program_deep w first program m is listed))
 
-module _ {w : World} {first : MemberId} {program : List Reached} (weights : ℕ → ℕ) (well : IsWellBuilt w) (is : IsProgram w first program) where
+module _ {w : World} {first : MemberId} {program : List Plan} (weights : ℕ → ℕ) (well : IsWellBuilt w) (is : IsProgram w first program) where
   -- what is left pays for the instruction, for the method that it calls, and for what comes next
   left_splits : {a : Here} (s : IsStanding w program a)
       → left weights program w a
-      ≡ moments.cost_of w weights a + greatest (map (cost_of weights program) (plan_of w first program a is s).targets)
-      + rest_if (is_end (action_of (plan_of w first program a is s).instr)) (left_in weights program w a.frame.method (a.frame.pc + (plan_of w first program a is s).instr.len) (code_at w a.frame.method))
+      ≡ moments.cost_of w weights a + greatest (map (cost_of weights program) (current_of w first program a is s).targets)
+      + rest_if (is_end (action_of (current_of w first program a is s).instr)) (left_in weights program w a.frame.method (a.frame.pc + (current_of w first program a is s).instr.len) (code_at w a.frame.method))
   unfolding left
   left_splits {a = a} s =
-      let p = plan_of w first program a is s in
+      let p = current_of w first program a is s in
       let m : MemberId = a.frame.method in
       let weight : weights p.instr.op ≡ moments.cost_of w weights a = sym (ap (weight_of weights) p.stands) in
       let g : ℕ = greatest (map (cost_of weights program) p.targets) in
@@ -124,18 +124,18 @@ module _ {w : World} {first : MemberId} {program : List Reached} (weights : ℕ 
 
   pub pays_here : {a : Here} → IsStanding w program a → moments.cost_of w weights a ≤ left weights program w a
   pays_here {a = a} s =
-      let p = plan_of w first program a is s in
+      let p = current_of w first program a is s in
       let g : ℕ = greatest (map (cost_of weights program) p.targets) in
       omega (arith, left_splits s)
 
   -- where no end of the method comes
-  left_goes_on : {a : Here} (s : IsStanding w program a) → is_end (action_of (plan_of w first program a is s).instr) ≡ false
+  left_goes_on : {a : Here} (s : IsStanding w program a) → is_end (action_of (current_of w first program a is s).instr) ≡ false
       → left weights program w a
-      ≡ moments.cost_of w weights a + greatest (map (cost_of weights program) (plan_of w first program a is s).targets)
-      + left_in weights program w a.frame.method (a.frame.pc + (plan_of w first program a is s).instr.len) (code_at w a.frame.method)
+      ≡ moments.cost_of w weights a + greatest (map (cost_of weights program) (current_of w first program a is s).targets)
+      + left_in weights program w a.frame.method (a.frame.pc + (current_of w first program a is s).instr.len) (code_at w a.frame.method)
   unfolding rest_if
   left_goes_on {a = a} s on =
-      let p = plan_of w first program a is s in
+      let p = current_of w first program a is s in
       let g : ℕ = greatest (map (cost_of weights program) p.targets) in
       let later : ℕ = left_in weights program w a.frame.method (a.frame.pc + p.instr.len) (code_at w a.frame.method) in
       left_splits s ∙ ap (λ (b : Bool). moments.cost_of w weights a + g + rest_if b later) on
@@ -143,22 +143,22 @@ module _ {w : World} {first : MemberId} {program : List Reached} (weights : ℕ 
   pays_move : {a b : Here} {k c : ℕ} → IsStanding w program a → Moves w weights false a k b → c ≤ left weights program w b → k + c ≤ left weights program w a
   unfolding left
   pays_move {a = a} {b = b} s m spent =
-      let p = plan_of w first program a is s in
+      let p = current_of w first program a is s in
       let on = move_stands weights well is s m in
       let next : left weights program w b ≡ left_in weights program w a.frame.method (a.frame.pc + p.instr.len) (code_at w a.frame.method) = ap (λ (x : Here). left weights program w x) on.now in
       omega (arith, spent, next, m.costs, left_goes_on s on.no_end)
 
   -- a call of a method that the instruction can call
   pays_call : {a b : Here} {k c rest : ℕ} (s : IsStanding w program a) → Starts w weights a k b → c ≤ left weights program w b
-      → rest ≤ left_in weights program w a.frame.method (a.frame.pc + (plan_of w first program a is s).instr.len) (code_at w a.frame.method)
+      → rest ≤ left_in weights program w a.frame.method (a.frame.pc + (current_of w first program a is s).instr.len) (code_at w a.frame.method)
       → k + (c + rest) ≤ left weights program w a
   unfolding left
   pays_call {a = a} {b = b} s st spent behind_it =
-      let p = plan_of w first program a is s in
+      let p = current_of w first program a is s in
       let c = call_by weights well is s st.makes in
       let t : MemberId = c.called.target in
       let there : Contains p.targets t = call_target weights well is s st.makes in
-      let listed : IsListed program t = is.closed a.frame.method t (plan_calls w first program a t is s p there) in
+      let listed : IsListed program t = is.closed a.frame.method t (current_calls w first program a t is s p there) in
       let now : b ≡ in_frame a (new_frame t c.called.code c.called.taken.handed.words) = st.begins ∙ ap (in_frame a) c.called.enters in
       let begun : left weights program w b ≡ cost_of weights program t = ap (λ (x : Here). left weights program w x) now ∙ start_left weights program w first t c.called.code is listed c.called.has_code in
       let most : cost_of weights program t ≤ greatest (map (cost_of weights program) p.targets) = greatest_least (map (cost_of weights program) p.targets) (cost_of weights program t) (in_map (cost_of weights program) p.targets t there) in
@@ -166,10 +166,10 @@ module _ {w : World} {first : MemberId} {program : List Reached} (weights : ℕ 
       omega (arith, spent, begun, most, behind_it, st.costs, left_goes_on s on)
 
   resumed_left : {a r : Here} {e : End} (s : IsStanding w program a) → Resumes w a e r
-      → left weights program w r ≡ left_in weights program w a.frame.method (a.frame.pc + (plan_of w first program a is s).instr.len) (code_at w a.frame.method)
+      → left weights program w r ≡ left_in weights program w a.frame.method (a.frame.pc + (current_of w first program a is s).instr.len) (code_at w a.frame.method)
   unfolding left
   resumed_left {a = a} {r = r} s re =
-      let p = plan_of w first program a is s in
+      let p = current_of w first program a is s in
       let c = call_by weights well is s re.waits.1 in
       let back = back_by weights well is s re in
       let at : Frame → ℕ = λ f. left_in weights program w f.method f.pc (code_at w f.method) in

@@ -5,7 +5,6 @@ use Rattle.std.proofs.lemmas.Bool.{ltb-true}
 use Rattle.std.proofs.lemmas.List.Elements.{All-nil, All-cons}
 use Rattle.class_pool.specs.declared.constant.Constant.{Constant}
 use Rattle.class_pool.specs.Pool.{class_name_at}
-use Rattle.class_reader.specs.declared.class.Code.{Code}
 use Rattle.op_table.specs.Actions.{action_of}
 use Rattle.op_table.specs.declared.acts.Action.{Action}
 use Rattle.op_table.specs.declared.acts.Action.TheVariants as acts
@@ -26,7 +25,6 @@ use Rattle.descriptors.specs.Pieces.{parameters_of, result_of}
 use Rattle.descriptors.specs.Texts.{words_of_all}
 use Rattle.frames.specs.Outcome.{Outcome, Goes, Enters, Leaves, in_frame, with_words, moved}
 use Rattle.frames.specs.Standing.{Standing, next_pc, standing_on, standing_at}
-use Rattle.linking.specs.Methods.{code_at}
 use Rattle.word_steps.specs.Narrowing.{narrowed_to}
 use Rattle.steps.specs.Calling.{receiver_words, waiting, new_frame}
 use Rattle.steps.specs.Step.{outcome_of, resumed, resumed_by, with_result}
@@ -44,14 +42,14 @@ use Rattle.object_steps.specs.FieldCases.{FieldChange}
 use Rattle.object_steps.specs.CastCases as casts
 use Rattle.object_steps.specs.CastCases.{CastChange}
 use Rattle.steps.specs.Row.{Row, Called}
-use Rattle.code_flow.specs.declared.program.Reached.{Reached}
+use Rattle.code_flow.specs.Plans.{Plan}
 use Rattle.code_flow.specs.Judging.{is_end, shown}
 use Rattle.code_flow.specs.Program.{IsProgram}
 use Rattle.call_costs.proofs.Placing.{path_start, path_next}
 use Rattle.call_costs.proofs.Words.{IsMade, IsKnown, AreKnown, pushed_known, popped_known, taken_known, first_known, narrowed_known, computed_known}
 use Rattle.call_costs.proofs.Heaps.{Grows, grows_self, grows_on, known_later, grows_new, new_known}
 use Rattle.call_costs.proofs.Targets.{dispatched_target, call_links, shows_none}
-use Rattle.call_costs.proofs.Activations.{IsListed, IsStanding, code_whole, plan_of, plan_calls}
+use Rattle.call_costs.proofs.Activations.{IsListed, IsStanding, code_whole, current_of, current_calls}
 
 -- ---- a step that goes on in its frame
 
@@ -257,7 +255,7 @@ result_known w heap (Some value) stack known all = pushed_known w heap value sta
 
 -- ---- what is known since the start of an activation, and over a call
 
-pub record Since (w : World) (program : List Reached) (start a : Here) : Type 0 where
+pub record Since (w : World) (program : List Plan) (start a : Here) : Type 0 where
   pub stands : IsStanding w program a
   pub grows : Grows w start.heap a.heap
 
@@ -265,17 +263,17 @@ pub record Over (w : World) (start : Here) (e : End) : Type 0 where
   pub grows : Grows w start.heap e.heap
   pub value : IsResult w e.heap e.value
 
-module _ {w : World} {first : MemberId} {program : List Reached} (weights : ℕ → ℕ) (well : IsWellBuilt w) (is : IsProgram w first program) where
-  pub move_stands : {a b : Here} {k : ℕ} (s : IsStanding w program a) → Moves w weights false a k b → GoesOn w (standing_on w a.frame (plan_of w first program a is s).method s.code (plan_of w first program a is s).instr) a b (action_of (plan_of w first program a is s).instr)
+module _ {w : World} {first : MemberId} {program : List Plan} (weights : ℕ → ℕ) (well : IsWellBuilt w) (is : IsProgram w first program) where
+  pub move_stands : {a b : Here} {k : ℕ} (s : IsStanding w program a) → Moves w weights false a k b → GoesOn w (standing_on w a.frame (current_of w first program a is s).method s.code (current_of w first program a is s).instr) a b (action_of (current_of w first program a is s).instr)
   move_stands {a = a} {b = b} s m =
-      let p = plan_of w first program a is s in
+      let p = current_of w first program a is s in
       goes_on w (standing_on w a.frame p.method s.code p.instr) a b m.wraps p.row
       (shows_none w a.frame.method.class s.code.bytes (record { pc = a.frame.pc; instr = p.instr }) p.targets p.verdict) m.makes
 
   moved_since : {start a b : Here} {k : ℕ} → Since w program start a → Moves w weights false a k b → Since w program start b
   moved_since {start = start} {a = a} {b = b} since m =
       let s = since.stands in
-      let p = plan_of w first program a is s in
+      let p = current_of w first program a is s in
       let on = move_stands s m in
       let known = on.known s.locals s.stack in
       subst (λ (x : Here). Since w program start x) (sym on.now)
@@ -293,16 +291,16 @@ module _ {w : World} {first : MemberId} {program : List Reached} (weights : ℕ 
 
   -- the call of an activation
   pub call_by : {a : Here} {caller callee : Frame} (s : IsStanding w program a) → outcome_of w a ≡ Enters caller callee
-      → Calls w (standing_on w a.frame (plan_of w first program a is s).method s.code (plan_of w first program a is s).instr) a (action_of (plan_of w first program a is s).instr) caller callee
+      → Calls w (standing_on w a.frame (current_of w first program a is s).method s.code (current_of w first program a is s).instr) a (action_of (current_of w first program a is s).instr) caller callee
   call_by {a = a} {caller = caller} {callee = callee} s makes =
-      let p = plan_of w first program a is s in
+      let p = current_of w first program a is s in
       enters_by w (standing_on w a.frame p.method s.code p.instr) a caller callee p.row makes
 
   -- what it runs is one of the methods that its instruction can call
   pub call_target : {a : Here} {caller callee : Frame} (s : IsStanding w program a) (makes : outcome_of w a ≡ Enters caller callee)
-      → Contains (plan_of w first program a is s).targets (call_by s makes).called.target
+      → Contains (current_of w first program a is s).targets (call_by s makes).called.target
   call_target {a = a} {caller = caller} {callee = callee} s makes =
-      let p = plan_of w first program a is s in
+      let p = current_of w first program a is s in
       let c = call_by s makes in
       let called = c.called in
       let words = (taken_known w a.heap (receiver_words c.call + words_of_all (parameters_of (method_of w called.taken.meant.method).desc)) a.frame.stack called.taken.handed called.taken.takes s.stack).0 in
@@ -311,10 +309,10 @@ module _ {w : World} {first : MemberId} {program : List Reached} (weights : ℕ 
 
   started_stands : {a b : Here} {k : ℕ} → IsStanding w program a → Starts w weights a k b → IsStanding w program b
   started_stands {a = a} {b = b} s st =
-      let p = plan_of w first program a is s in
+      let p = current_of w first program a is s in
       let c = call_by s st.makes in
       let called = c.called in
-      let listed : IsListed program called.target = is.closed a.frame.method called.target (plan_calls w first program a called.target is s p (call_target s st.makes)) in
+      let listed : IsListed program called.target = is.closed a.frame.method called.target (current_calls w first program a called.target is s p (call_target s st.makes)) in
       let words = (taken_known w a.heap (receiver_words c.call + words_of_all (parameters_of (method_of w called.taken.meant.method).desc)) a.frame.stack called.taken.handed called.taken.takes s.stack).0 in
       let now : in_frame a (new_frame called.target called.code called.taken.handed.words) ≡ b = sym (st.begins ∙ ap (in_frame a) called.enters) in
       subst (λ (x : Here). IsStanding w program x) now
@@ -333,15 +331,15 @@ module _ {w : World} {first : MemberId} {program : List Reached} (weights : ℕ 
   ended_over : {start d : Here} {e : End} {k : ℕ} → Since w program start d → Ends w weights d k e → Over w start e
   ended_over {start = start} {d = d} {e = e} since en =
       let s = since.stands in
-      let p = plan_of w first program d is s in
+      let p = current_of w first program d is s in
       subst (λ (x : End). Over w start x) (sym en.ends)
       (record { grows = since.grows; value = leaves_with w (standing_on w d.frame p.method s.code p.instr) d en.value p.row en.makes s.stack })
 
   -- the frame as which it waits, and goes on behind its call
   pub back_by : {a r : Here} {e : End} (s : IsStanding w program a) → (re : Resumes w a e r)
-      → GoesBack re.caller re.frame (with_result e.value re.caller.stack) (standing_on w a.frame (plan_of w first program a is s).method s.code (plan_of w first program a is s).instr)
+      → GoesBack re.caller re.frame (with_result e.value re.caller.stack) (standing_on w a.frame (current_of w first program a is s).method s.code (current_of w first program a is s).instr)
   back_by {a = a} {e = e} s re =
-      let p = plan_of w first program a is s in
+      let p = current_of w first program a is s in
       let c = call_by s re.waits.1 in
       let this : Standing = standing_on w a.frame p.method s.code p.instr in
       let stands : standing_at w re.caller ≡ Some this =
@@ -350,7 +348,7 @@ module _ {w : World} {first : MemberId} {program : List Reached} (weights : ℕ 
 
   resumed_stands : {a r : Here} {e : End} → IsStanding w program a → Grows w a.heap e.heap → IsResult w e.heap e.value → Resumes w a e r → IsStanding w program r
   resumed_stands {a = a} {r = r} {e = e} s grows value re =
-      let p = plan_of w first program a is s in
+      let p = current_of w first program a is s in
       let c = call_by s re.waits.1 in
       let called = c.called in
       let back = back_by s re in

@@ -1,5 +1,5 @@
 -- Costs, instruction by instruction.
-use Rattle.std.proofs.Common.{◌≡◌, ℕ, suc, ◌+◌, ◌<◌, ◌≤◌, max, Bool, true, false, List, [], ◌∷◌, length, map, drop, drop-cons, get_or, Some, None, refl, sym, ◌∙◌, ap, subst, arith, nat_le}
+use Rattle.std.proofs.Common.{◌≡◌, ℕ, ◌+◌, ◌<◌, ◌≤◌, max, Bool, true, false, List, [], ◌∷◌, length, map, drop, get_or, Some, None, refl, sym, ◌∙◌, ap, subst, arith, nat_le}
 use Rattle.std.specs.Prelude.{if◌then◌else◌}
 use Rattle.std.proofs.lemmas.Bool.Decides.{nat_tests}
 use Rattle.std.proofs.lemmas.List.{drop_all}
@@ -8,7 +8,7 @@ use Rattle.std.proofs.lemmas.Grind.{common_steps}
 use Rattle.common_laws.proofs.Parts.{drop_next}
 use Rattle.op_table.specs.Actions.{action_of}
 use Rattle.world.specs.declared.member.MemberId.{MemberId}
-use Rattle.code_flow.specs.declared.program.Planned.{Planned}
+use Rattle.code_flow.specs.Plans.{Planned}
 use Rattle.code_flow.specs.Judging.{is_end}
 use Rattle.call_costs.specs.Costs.{greatest, cost_of_instruction, cost_of_code, most_cost}
 use Rattle.call_costs.specs.Knowing.{within}

@@ -28,7 +28,8 @@ use Rattle.frames.specs.declared.value.Value.TheVariants.{Ref}
 use Rattle.frames.specs.Heap.{Cells}
 use Rattle.steps.specs.Row as rows
 use Rattle.steps.specs.Row.{Dispatched}
-use Rattle.code_flow.specs.Placing.{Placed, is_last}
+use Rattle.code_blocks.specs.declared.instruction.Placed.{Placed}
+use Rattle.code_blocks.specs.Placing.{is_last}
 use Rattle.code_flow.specs.Judging.{shown, meant, judged, judged_past, is_end}
 use Rattle.call_costs.proofs.Words.{IsKnown, AreKnown}
 

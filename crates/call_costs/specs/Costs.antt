@@ -3,8 +3,7 @@ use Rattle.std.specs.Prelude.{ℕ, zero, suc, ◌+◌, ◌<◌, nat_le, List, []
 use Rattle.std.specs.Option.{option_map_or}
 use Rattle.op_table.specs.Actions.{action_of}
 use Rattle.world.specs.declared.member.MemberId.{MemberId}
-use Rattle.code_flow.specs.declared.program.Planned.{Planned}
-use Rattle.code_flow.specs.declared.program.Reached.{Reached}
+use Rattle.code_flow.specs.Plans.{Planned, Plan}
 use Rattle.code_flow.specs.Judging.{is_end}
 use Rattle.code_flow.specs.Listing.{is_method}
 
@@ -23,16 +22,16 @@ cost_of_code weights cost [] = 0
 cost_of_code weights cost (i ∷ is) =
     cost_of_instruction weights cost i + (if is_end (action_of i.instr) then 0 else cost_of_code weights cost is)
 
-abbrev pub instructions_of : List Reached → MemberId → List Planned
+abbrev pub instructions_of : List Plan → MemberId → List Planned
 instructions_of program m = option_map_or (λ r. r.instructions) (find (λ r. is_method m r.method) program) []
 
 -- the cost of a method, where calls are nested at most n deep
-unfoldable pub cost_within : (ℕ → ℕ) → List Reached → ℕ → MemberId → ℕ
+unfoldable pub cost_within : (ℕ → ℕ) → List Plan → ℕ → MemberId → ℕ
 cost_within weights program zero m = 0
 cost_within weights program (suc n) m = cost_of_code weights (cost_within weights program n) (instructions_of program m)
 
 -- the cost of a method of a program: since no call leads back, they are nested at most as deep as it has methods
-unfoldable pub cost_of : (ℕ → ℕ) → List Reached → MemberId → ℕ
+unfoldable pub cost_of : (ℕ → ℕ) → List Plan → MemberId → ℕ
 cost_of weights program m = cost_within weights program (length program) m
 
 -- ---- the costs of all methods
@@ -42,9 +41,9 @@ abbrev pub most_cost : ℕ
 most_cost = 170141183460469231731687303715884105727
 
 -- the cost of each method, in the order of the methods
-abbrev pub costs_of : (ℕ → ℕ) → List Reached → List ℕ
+abbrev pub costs_of : (ℕ → ℕ) → List Plan → List ℕ
 costs_of weights program = map (λ r. cost_of weights program r.method) program
 
 -- some method costs more than is counted
-abbrev pub IsTooGreat : (ℕ → ℕ) → List Reached → Type 0
-IsTooGreat weights program = (r : Reached) × Contains program r × (most_cost < cost_of weights program r.method)
+abbrev pub IsTooGreat : (ℕ → ℕ) → List Plan → Type 0
+IsTooGreat weights program = (r : Plan) × Contains program r × (most_cost < cost_of weights program r.method)

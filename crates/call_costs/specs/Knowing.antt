@@ -5,7 +5,7 @@ use Rattle.std.specs.declared.cmp.Ordering.{Ordering}
 use Rattle.std.specs.BTreeMap as tree
 use Rattle.std.specs.BTreeMap.{BTreeMap}
 use Rattle.world.specs.declared.member.MemberId.{MemberId}
-use Rattle.code_flow.specs.declared.program.Reached.{Reached}
+use Rattle.code_flow.specs.Plans.{Plan}
 use Rattle.code_flow.specs.Listing.{is_method}
 use Rattle.call_costs.specs.Costs.{cost_of_code, cost_of, most_cost}
 
@@ -24,23 +24,23 @@ abbrev pub within : ℕ → Option ℕ
 within cost = if nat_le cost most_cost then Some cost else None
 
 -- no method is listed twice
-abbrev pub IsEachOnce : List Reached → Type 0
+abbrev pub IsEachOnce : List Plan → Type 0
 IsEachOnce program = AllPairs (λ a b. ¬ (a.method ≡ b.method)) program
 
 -- what a method costs by what was known before is known now
-abbrev pub IsPriced : (ℕ → ℕ) → Reached → (MemberId → ℕ) → (MemberId → ℕ) → Type 0
+abbrev pub IsPriced : (ℕ → ℕ) → Plan → (MemberId → ℕ) → (MemberId → ℕ) → Type 0
 IsPriced weights r before now =
     ((m : MemberId) → now m ≡ (if is_method r.method m then cost_of_code weights before r.instructions else before m))
     × (cost_of_code weights before r.instructions ≤ most_cost)
 
 -- a method's cost is known, and not too great
-abbrev pub HasCost : (ℕ → ℕ) → List Reached → (MemberId → ℕ) → MemberId → Type 0
+abbrev pub HasCost : (ℕ → ℕ) → List Plan → (MemberId → ℕ) → MemberId → Type 0
 HasCost weights program known m = (known m ≡ cost_of weights program m) × (cost_of weights program m ≤ most_cost)
 
 -- those of the first i methods in an order
-abbrev pub Knows : (ℕ → ℕ) → List Reached → List ℕ → ℕ → (MemberId → ℕ) → Type 0
+abbrev pub Knows : (ℕ → ℕ) → List Plan → List ℕ → ℕ → (MemberId → ℕ) → Type 0
 Knows weights program order i known =
-    (j k : ℕ) (r : Reached) → j < i → slice_get order j ≡ Some k → slice_get program k ≡ Some r → HasCost weights program known r.method
+    (j k : ℕ) (r : Plan) → j < i → slice_get order j ≡ Some k → slice_get program k ≡ Some r → HasCost weights program known r.method
 
-abbrev pub HasCosts : (ℕ → ℕ) → List Reached → (MemberId → ℕ) → Type 0
-HasCosts weights program known = (r : Reached) → Contains program r → HasCost weights program known r.method
+abbrev pub HasCosts : (ℕ → ℕ) → List Plan → (MemberId → ℕ) → Type 0
+HasCosts weights program known = (r : Plan) → Contains program r → HasCost weights program known r.method

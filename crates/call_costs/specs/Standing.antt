@@ -5,8 +5,7 @@ use Rattle.world.specs.declared.member.MemberId.{MemberId}
 use Rattle.class_hierarchy.specs.World.{World, is_instantiable}
 use Rattle.class_hierarchy.specs.Building.{IsWellBuilt}
 use Rattle.class_reader.specs.declared.class.Code.{Code}
-use Rattle.code_flow.specs.declared.program.Planned.{Planned}
-use Rattle.code_flow.specs.declared.program.Reached.{Reached}
+use Rattle.code_flow.specs.Plans.{Planned, Plan}
 use Rattle.code_flow.specs.Program.{IsProgram}
 use Rattle.frames.specs.declared.value.Value.{Value}
 use Rattle.frames.specs.declared.value.Value.TheVariants.{Ref}
@@ -24,8 +23,8 @@ IsSound w heap (Ref r) = ((c : ℕ) (fields : List (MemberId × Value)) → cell
 IsSound w heap value = Unit {0}
 
 -- The frame stands at an instruction of a method of the program, and its words are sound.
-pub record Stands (w : World) (program : List Reached) (here : Here) : Type 0 where
-  pub reached : Reached
+pub record Stands (w : World) (program : List Plan) (here : Here) : Type 0 where
+  pub reached : Plan
   pub listed : Contains program reached
   pub is_method : reached.method ≡ here.frame.method
   pub instruction : Planned
@@ -43,12 +42,12 @@ HasInstructions w m = (code : Code) → code_at w m ≡ Some code → 0 < length
 -- each configuration of a run of a program's method stands in the program
 abbrev pub RunsStand : Type 0
 RunsStand =
-    (w : World) (m : MemberId) (program : List Reached) (weights : ℕ → ℕ) (run : List State) (moment : ℕ) (now : State)
+    (w : World) (m : MemberId) (program : List Plan) (weights : ℕ → ℕ) (run : List State) (moment : ℕ) (now : State)
     → IsWellBuilt w → IsProgram w m program → HasInstructions w m → IsRun w weights m run → slice_get run moment ≡ Some now
     → Stands w program now.here
 
 -- and in each run of it, at each moment, at most the method's cost is spent
 abbrev pub CostsBoundRuns : Type 0
 CostsBoundRuns =
-    (w : World) (m : MemberId) (program : List Reached) (weights : ℕ → ℕ)
+    (w : World) (m : MemberId) (program : List Plan) (weights : ℕ → ℕ)
     → IsWellBuilt w → IsProgram w m program → CostsAtMost w weights m (cost_of weights program m)

@@ -1,8 +1,9 @@
 //! What each method of a program costs, callees first.
 
-ghost use Rattle.std.specs.Prelude.{◌≡◌, ◌<◌, ℕ, map, Some, IfOk, IfErr, OnOk, if◌then◌else◌};
+ghost use Rattle.std.specs.Prelude.{All, ◌≡◌, ◌<◌, length, ℕ, map, Some, IfOk, IfErr, OnOk, if◌then◌else◌};
 ghost use Rattle.std.specs.BTreeMap.{is_at};
 ghost use Rattle.cost_model.specs.Costs.{cost_at};
+ghost use Rattle.code_flow.specs.Plans.{plan_of, plans_of};
 ghost use Rattle.code_flow.specs.Program.{IsCalleesFirst};
 ghost use Rattle.call_costs.specs.declared.fault.CostFault.TheVariants as fault;
 ghost use Rattle.call_costs.specs.Costs.{cost_of_code, costs_of, most_cost, IsTooGreat};
@@ -28,12 +29,14 @@ fn learn(known: &mut Known, m: MemberId, cost: u128) -> Result<(), AllocError>
 fn price<F: CostFunction>(
     known: &mut Known,
     model: &CostModel<F>,
-    reached: &Reached,
+    reached: &Reached<'_>,
 ) -> Result<(), CostFault>
-    ensures priced { OnOk result (IsPriced (cost_at model.now) reached.now (cost_in known.old) (cost_in known.new)) }
-    ensures too_great { IfErr result (λ e. e ≡ fault.TooGreat → most_cost < cost_of_code (cost_at model.now) (cost_in known.old) reached.now.instructions) }
+    requires { length reached.now.targets ≡ length reached.now.body.instructions }
+    ensures priced { OnOk result (IsPriced (cost_at model.now) (plan_of reached.now) (cost_in known.old) (cost_in known.new)) }
+    ensures too_great { IfErr result (λ e. e ≡ fault.TooGreat → most_cost < cost_of_code (cost_at model.now) (cost_in known.old) (plan_of reached.now).instructions) }
 {
-    match code_cost(model, known, reached.instructions.as_slice()) {
+    let instructions = reached.body.instructions();
+    match code_cost(model, known, instructions, reached.targets.as_slice()) {
         None => Err(CostFault::TooGreat),
         Some(cost) => Ok(learn(known, reached.method, cost)?),
     }
@@ -42,14 +45,15 @@ fn price<F: CostFunction>(
 // The costs of the methods, callees first.
 fn price_all<F: CostFunction>(
     alloc: Global,
-    methods: &[Reached],
+    methods: &[Reached<'_>],
     order: &[u32],
     model: &CostModel<F>,
 ) -> Result<Known, CostFault>
-    requires once { IsEachOnce methods.now }
-    requires first { IsCalleesFirst methods.now order.now }
-    ensures costs { IfOk result (λ known. HasCosts (cost_at model.now) methods.now (cost_in known)) }
-    ensures too_great { IfErr result (λ e. e ≡ fault.TooGreat → IsTooGreat (cost_at model.now) methods.now) }
+    requires once { IsEachOnce (plans_of methods.now) }
+    requires first { IsCalleesFirst (plans_of methods.now) order.now }
+    requires counts { All (λ r. length r.targets ≡ length r.body.instructions) methods.now }
+    ensures costs { IfOk result (λ known. HasCosts (cost_at model.now) (plans_of methods.now) (cost_in known)) }
+    ensures too_great { IfErr result (λ e. e ≡ fault.TooGreat → IsTooGreat (cost_at model.now) (plans_of methods.now)) }
 {
     let mut known = BTreeMap::new(alloc);
     for k in order {
@@ -59,7 +63,7 @@ fn price_all<F: CostFunction>(
 }
 
 // The known costs of the methods in order.
-fn list(alloc: Global, known: &Known, methods: &[Reached]) -> Result<Vec<u128>, AllocError>
+fn list(alloc: Global, known: &Known, methods: &[Reached<'_>]) -> Result<Vec<u128>, AllocError>
     ensures { IfOk result (λ costs. costs.items ≡ map (λ r. cost_in known.now r.method) methods.now) }
 {
     let mut costs = Vec::new(alloc);
@@ -76,14 +80,14 @@ fn list(alloc: Global, known: &Known, methods: &[Reached]) -> Result<Vec<u128>, 
 /// `TooGreat` exactly where some method costs more than 2^127 - 1, and `Memory` where memory runs out.
 pub fn costs<F: CostFunction>(
     alloc: Global,
-    program: &Program,
+    program: &Program<'_>,
     model: &CostModel<F>,
 ) -> Result<Costs, CostFault>
-    requires once { IsEachOnce program.now }
-    ensures costs { IfOk result (λ costs. costs ≡ costs_of (cost_at model.now) program.now) }
-    ensures small { IfOk result (λ _. ¬ IsTooGreat (cost_at model.now) program.now) }
-    ensures too_great { IfErr result (λ e. e ≡ fault.TooGreat → IsTooGreat (cost_at model.now) program.now) }
+    ensures costs { IfOk result (λ costs. costs ≡ costs_of (cost_at model.now) (plans_of program.now)) }
+    ensures small { IfOk result (λ _. ¬ IsTooGreat (cost_at model.now) (plans_of program.now)) }
+    ensures too_great { IfErr result (λ e. e ≡ fault.TooGreat → IsTooGreat (cost_at model.now) (plans_of program.now)) }
 {
+    program.well_made();
     let known = price_all(alloc, program.methods(), program.callees_first(), model)?;
     Ok(Costs {
         costs: list(alloc, &known, program.methods())?,

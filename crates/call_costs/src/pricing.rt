@@ -1,13 +1,15 @@
 //! What the code of one method costs, where the costs of those that it calls are known.
 
-ghost use Rattle.std.specs.Prelude.{◌≡◌, ◌+◌, map};
+ghost use Rattle.std.specs.Prelude.{◌≡◌, ◌+◌, length, map};
 ghost use Rattle.cost_model.specs.Costs.{cost_at};
 ghost use Rattle.op_table.specs.Actions.{action_of as meaning};
 ghost use Rattle.code_flow.specs.Judging.{is_end};
+ghost use Rattle.code_flow.specs.Plans.{beside, planned_with};
 ghost use Rattle.call_costs.specs.Costs.{greatest, cost_of_instruction, cost_of_code};
 ghost use Rattle.call_costs.specs.Knowing.{cost_in, within};
 
-use code_flow::Planned;
+use class_pool::Sequence;
+use code_blocks::Instruction;
 use cost_model::{CostFunction, CostModel};
 use op_table::acts::Action;
 use op_table::{Instr, action_of};
@@ -52,12 +54,13 @@ fn greatest_cost(known: &Known, methods: &[MemberId]) -> u128
 fn instruction_cost<F: CostFunction>(
     model: &CostModel<F>,
     known: &Known,
-    i: &Planned,
+    i: &Instruction,
+    targets: &[MemberId],
 ) -> Option<u128>
-    ensures { result ≡ within (cost_of_instruction (cost_at model.now) (cost_in known.now) i.now) }
+    ensures { result ≡ within (cost_of_instruction (cost_at model.now) (cost_in known.now) (planned_with i.now targets.now)) }
 {
     let weight = model.charge_instr(&i.instr);
-    sum(weight as u128, greatest_cost(known, i.targets.as_slice()))
+    sum(weight as u128, greatest_cost(known, targets))
 }
 
 // No instruction of the method comes next behind it.
@@ -75,13 +78,15 @@ fn ends(instr: &Instr) -> bool
 pub(crate) fn code_cost<F: CostFunction>(
     model: &CostModel<F>,
     known: &Known,
-    instructions: &[Planned],
+    instructions: &[Instruction],
+    targets: &[Sequence<MemberId>],
 ) -> Option<u128>
-    ensures { result ≡ within (cost_of_code (cost_at model.now) (cost_in known.now) instructions.now) }
+    requires { length targets.now ≡ length instructions.now }
+    ensures { result ≡ within (cost_of_code (cost_at model.now) (cost_in known.now) (beside instructions.now targets.now)) }
 {
     let mut total = 0;
-    for i in instructions {
-        let cost = instruction_cost(model, known, i)?;
+    for (k, i) in instructions.iter().enumerate() {
+        let cost = instruction_cost(model, known, i, targets[k].as_slice())?;
         total = sum(total, cost)?;
         if ends(&i.instr) {
             return Some(total);

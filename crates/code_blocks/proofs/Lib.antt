@@ -1,9 +1,9 @@
 pub mod Placings
-mod Risings
+pub mod Risings
 mod Followings
 mod Marking
-mod Ways
+pub mod Ways
 mod Cuts
-mod Laying
+pub mod Laying
 pub mod Chains
 pub mod Sets

@@ -166,8 +166,8 @@ fn behind(alloc: Global, p: &Placed) -> Result<Vec<u32>, AllocError>
     Ok(places)
 }
 
-// The numbers in rising order, each once.
-fn rising(mut numbers: Vec<u32>) -> Sequence<u32>
+/// The numbers in rising order, each once.
+pub fn rising(mut numbers: Vec<u32>) -> Sequence<u32>
     ensures { result ≡ rising numbers.items }
 {
     numbers.sort_unstable();

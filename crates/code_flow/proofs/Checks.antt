@@ -16,7 +16,7 @@ use Rattle.code_flow.specs.declared.checking.Check.{Check}
 use Rattle.code_flow.specs.declared.checking.Check.TheVariants.{Over, Back}
 use Rattle.code_flow.specs.declared.fault.FlowFault.{FlowFault}
 use Rattle.code_flow.specs.declared.fault.FlowFault.TheVariants.{Unsupported}
-use Rattle.code_flow.specs.declared.program.Reached.{Reached}
+use Rattle.code_flow.specs.Plans.{Plan}
 use Rattle.code_flow.specs.declared.scanning.Scan.{Scan}
 use Rattle.code_flow.specs.Listing.{is_among, callees, most_methods, reached, targets_in}
 use Rattle.code_flow.specs.Flow.{fault_if, fault_of, first_of, first_in, first_fault, planned, unless, flow_from}
@@ -91,7 +91,7 @@ few_of ms none = past_end ms most_methods (sym none)
 pub few_listed : (w : World) (m : MemberId) (ms : List MemberId) (scans : List Scan) → IsListed w m ms scans → None ≡ slice_get ms most_methods → length ms ≤ most_methods
 few_listed w m ms scans h none = few_of ms none
 
-all_scanned : (w : World) (m : MemberId) (ms : List MemberId) (scans : List Scan) → IsListed w m ms scans → length ms ≤ most_methods → scans ≡ map (scan_of w) ms
+pub all_scanned : (w : World) (m : MemberId) (ms : List MemberId) (scans : List Scan) → IsListed w m ms scans → length ms ≤ most_methods → scans ≡ map (scan_of w) ms
 all_scanned w m ms scans h few = h.scanned ∙ ap (λ l. map (scan_of w) (take most_methods l)) (sym h.whole) ∙ ap (λ l. map (scan_of w) l) (take_all most_methods ms few)
 
 pub same_count : (w : World) (m : MemberId) (ms : List MemberId) (scans : List Scan) → IsListed w m ms scans → None ≡ slice_get ms most_methods → length scans ≡ length ms
@@ -124,7 +124,7 @@ same_map : (w : World) (ms : List MemberId) → map (planned w) ms ≡ map plann
 same_map w [] = refl
 same_map w (m ∷ ms) = rw (planned_scanned w m, same_map w ms) refl
 
-pub flow_gives : (w : World) (m : MemberId) (ms : List MemberId) (scans : List Scan) (check : Check) (program : List Reached) → IsListed w m ms scans → IsCheck w ms (slice_get ms most_methods) check
+pub flow_gives : (w : World) (m : MemberId) (ms : List MemberId) (scans : List Scan) (check : Check) (program : List Plan) → IsListed w m ms scans → IsCheck w ms (slice_get ms most_methods) check
     → None ≡ first_from (checked_scan check ms) 0 scans → program ≡ map planned_by scans → flow_from w (reached w m) ≡ Ok program
 flow_gives w m ms scans check program h ch e is =
     let none : first_fault w (slice_get (reached w m) most_methods) (take most_methods (reached w m)) ≡ None = sym (fault_is w m ms scans check h ch) ∙ sym e in

@@ -16,8 +16,8 @@ use Rattle.class_hierarchy.specs.World.{World}
 use Rattle.linking.specs.Methods.{method_at}
 use Rattle.code_flow.specs.declared.fault.FlowFault.{FlowFault}
 use Rattle.code_flow.specs.declared.fault.FlowFault.TheVariants.{Unsupported, TooManyMethods}
-use Rattle.code_flow.specs.declared.program.Planned.{Planned}
-use Rattle.code_flow.specs.Placing.{placed, broken}
+use Rattle.code_flow.specs.Plans.{Planned}
+use Rattle.code_blocks.specs.Placing.{placed, broken}
 use Rattle.code_flow.specs.Judging.{Judged, judged_place, places_in, places_at, places_of, against_method, against_break}
 use Rattle.code_flow.specs.Listing.{is_among, targets_in, targets_at, callees, reached}
 use Rattle.code_flow.specs.Flow.{lead_back, fault_if, fault_of, first_in, first_fault, planned_place, planned_in, planned}

@@ -1,5 +1,5 @@
 -- The fault that is answered is the first one.
-use Rattle.std.proofs.Common.{◌≡◌, ◌⊎◌, ◌↔◌, inl, inr, ℕ, zero, suc, ◌<◌, ◌≤◌, Bool, true, false, List, [], ◌∷◌, length, take, map, Option, Some, None, Ok, Err, arith, refl, sym, ap, subst, ◌∙◌}
+use Rattle.std.proofs.Common.{◌≡◌, ◌↔◌, ℕ, zero, suc, ◌<◌, Bool, true, false, List, [], ◌∷◌, take, map, Option, Some, None, Ok, Err, arith, refl, sym, ap, ◌∙◌}
 use Rattle.std.specs.Prelude.{Contains, slice_get, Result}
 use Rattle.std.specs.Option.{option_or}
 use Rattle.std.proofs.lemmas.Option.{slice_get_within}
@@ -11,10 +11,10 @@ use Rattle.world.specs.declared.member.MemberId.{MemberId}
 use Rattle.class_hierarchy.specs.World.{World}
 use Rattle.code_flow.specs.declared.fault.FlowFault.{FlowFault}
 use Rattle.code_flow.specs.declared.fault.FlowFault.TheVariants.{Unsupported, TooManyMethods}
-use Rattle.code_flow.specs.declared.program.Reached.{Reached}
+use Rattle.code_flow.specs.Plans.{Plan}
 use Rattle.code_flow.specs.Judging.{Judged, places_of}
-use Rattle.code_flow.specs.Listing.{most_methods, is_among, reached}
-use Rattle.code_flow.specs.Flow.{method_named, lead_back, fault_if, fault_of, first_of, first_in, first_fault, planned, unless, flow_from, flow_at, flow_of}
+use Rattle.code_flow.specs.Listing.{most_methods, reached}
+use Rattle.code_flow.specs.Flow.{method_named, lead_back, fault_if, fault_of, first_of, first_in, first_fault, planned, unless, flow_at, flow_of}
 use Rattle.code_flow.specs.Faults.{ground, IsFirstFault, AreTooMany}
 use Rattle.code_flow.proofs.Mapped.{none_of}
 use Rattle.code_flow.proofs.ReachedLaws.{reached_looked}
@@ -123,7 +123,7 @@ module _ (w : World) (m : MemberId) where
 
 -- ---- what is answered
 
-unless_err : (program : List Reached) (found : Option FlowFault) (fault : FlowFault) → unless program found ≡ Err fault → found ≡ Some fault
+unless_err : (program : List Plan) (found : Option FlowFault) (fault : FlowFault) → unless program found ≡ Err fault → found ≡ Some fault
 unless_err program None fault h = absurd cc
 unless_err program (Some f) fault h = let e : f ≡ fault = cc in ap (λ (x : FlowFault). Some x) e
 

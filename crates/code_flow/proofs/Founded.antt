@@ -1,7 +1,7 @@
 -- What stands against a program is founded.
-use Rattle.std.proofs.Common.{◌≡◌, ◌⊎◌, inl, inr, ℕ, zero, suc, ◌<◌, Bool, true, false, List, [], ◌∷◌, length, Option, Some, None, refl, sym, subst, arith}
+use Rattle.std.proofs.Common.{◌≡◌, inl, inr, ℕ, zero, suc, ◌<◌, Bool, true, false, List, [], ◌∷◌, length, Option, Some, None, refl, sym, subst, arith}
 use Rattle.std.specs.Prelude.{Result, Ok, Err, slice_get, map, take}
-use Rattle.std.specs.Option.{option_or, option_and_then}
+use Rattle.std.specs.Option.{option_and_then}
 use Rattle.common_laws.proofs.Choices.{or_some}
 use Rattle.class_pool.specs.declared.target.Target.{Target}
 use Rattle.class_reader.specs.declared.class.ClassRecord.{ClassRecord}
@@ -14,7 +14,7 @@ use Rattle.world.specs.Tables.{HasMethod}
 use Rattle.linking.specs.Methods.{method_at}
 use Rattle.code_flow.specs.declared.fault.FlowFault.{FlowFault}
 use Rattle.code_flow.specs.declared.fault.FlowFault.TheVariants.{NoMethod, Unsupported, TooManyMethods}
-use Rattle.code_flow.specs.declared.program.Reached.{Reached}
+use Rattle.code_flow.specs.Plans.{Plan}
 use Rattle.code_flow.specs.Judging.{Judged, places_at, places_of}
 use Rattle.code_flow.specs.Listing.{most_methods, is_among, reached}
 use Rattle.code_flow.specs.Flow.{method_named, lead_back, fault_if, fault_of, first_of, first_in, first_fault, planned, unless, flow_at, flow_of}
@@ -79,7 +79,7 @@ all_founded : (w : World) (target : Target) (over : Option MemberId) (ms : List 
 unfolding first_fault
 all_founded w target over ms fault e = first_from (first_in w over) (IsFounded w target) (λ m b is. in_founded w target over m b is) ms fault e
 
-unless_founded : (w : World) (target : Target) (program : List Reached) (found : Option FlowFault) (fault : FlowFault) → ((f : FlowFault) → found ≡ Some f → IsFounded w target f)
+unless_founded : (w : World) (target : Target) (program : List Plan) (found : Option FlowFault) (fault : FlowFault) → ((f : FlowFault) → found ≡ Some f → IsFounded w target f)
     → unless program found ≡ Err fault → IsFounded w target fault
 unless_founded w target program None fault each e = absurd cc
 unless_founded w target program (Some f) fault each e = let same : f ≡ fault = cc in subst (IsFounded w target) same (each f refl)

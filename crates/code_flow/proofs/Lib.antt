@@ -1,5 +1,7 @@
-mod Placings
+mod Sites
 mod Scans
+pub mod Soundness
+mod Bodies
 pub mod Members
 pub mod ListingLaws
 pub mod ReachedLaws

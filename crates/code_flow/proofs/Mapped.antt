@@ -1,9 +1,6 @@
 -- The first answer for the elements of a list.
-use Rattle.std.proofs.Common.{◌≡◌, inl, inr, Bool, true, List, [], ◌∷◌, map, Option, Some, None, refl, sym, subst}
-use Rattle.std.specs.Prelude.{Contains, flat_map}
-use Rattle.std.specs.List.{list_any}
-use Rattle.std.specs.Option.{option_or}
-use Rattle.std.proofs.lemmas.List.Elements.{Contains-append_left, Contains-append_right, Contains-append_cases}
+use Rattle.std.proofs.Common.{◌≡◌, inl, inr, List, [], ◌∷◌, Option, None, subst}
+use Rattle.std.specs.Prelude.{Contains}
 use Rattle.common_laws.proofs.Choices.{or_none}
 use Rattle.common_laws.proofs.Members.{contains_cases, contains_none}
 use Rattle.code_flow.specs.Flow.{first_of}

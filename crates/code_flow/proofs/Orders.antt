@@ -12,7 +12,7 @@ use Rattle.world.specs.declared.member.MemberId.{MemberId}
 use Rattle.class_hierarchy.specs.World.{World}
 use Rattle.code_flow.specs.declared.checking.Check.{Check}
 use Rattle.code_flow.specs.declared.checking.Check.TheVariants.{Over, Back}
-use Rattle.code_flow.specs.declared.program.Reached.{Reached}
+use Rattle.code_flow.specs.Plans.{Plan}
 use Rattle.code_flow.specs.declared.scanning.Scan.{Scan}
 use Rattle.code_flow.specs.Listing.{most_methods, is_among, reached}
 use Rattle.code_flow.specs.Flow.{first_fault, planned}
@@ -78,11 +78,11 @@ before_of numbers order i q k j rising at lt there less =
           absurd (omega (arith, le, one, other, less))
     ]
 
-some_at : (w : World) (o : Option MemberId) (r : Reached) → option_map (planned w) o ≡ Some r → o ≡ Some r.method
+some_at : (w : World) (o : Option MemberId) (r : Plan) → option_map (planned w) o ≡ Some r → o ≡ Some r.method
 some_at w None r h = absurd cc
 some_at w (Some x) r h =
     let same : planned w x ≡ r = cc in
-    let method : x ≡ r.method = sym (planned_method w x) ∙ ap (λ (y : Reached). y.method) same in
+    let method : x ≡ r.method = sym (planned_method w x) ∙ ap (λ (y : Plan). y.method) same in
     ap Some method
 
 module _ (w : World) (ms : List MemberId) (none : first_fault w None ms ≡ None) (numbers order : List ℕ) (tells : TellsBack w ms numbers) (by : IsByNumber numbers order) where
@@ -94,8 +94,8 @@ module _ (w : World) (ms : List MemberId) (none : first_fault w None ms ≡ None
       let at = call_place w ms x t c in
       not_back w x t at.1.0.pc at.1.0.verdict (fault_at w None ms x at.1.0 none at.0 at.1.1) at.1.2 back
 
-  callee_before : (i k : ℕ) (r : Reached) (t : MemberId) → slice_get order i ≡ Some k → slice_get (map (planned w) ms) k ≡ Some r → Calls (map (planned w) ms) r.method t
-      → (j : ℕ) × (l : ℕ) × (c : Reached) × (j < i) × (slice_get order j ≡ Some l) × (slice_get (map (planned w) ms) l ≡ Some c) × (c.method ≡ t)
+  callee_before : (i k : ℕ) (r : Plan) (t : MemberId) → slice_get order i ≡ Some k → slice_get (map (planned w) ms) k ≡ Some r → Calls (map (planned w) ms) r.method t
+      → (j : ℕ) × (l : ℕ) × (c : Plan) × (j < i) × (slice_get order j ≡ Some l) × (slice_get (map (planned w) ms) l ≡ Some c) × (c.method ≡ t)
   callee_before i k r t at_i at_k c =
       let here : slice_get ms k ≡ Some r.method = some_at w (slice_get ms k) r (sym (slice_get-map (planned w) ms k) ∙ at_k) in
       let call = call_place w ms r.method t c in
@@ -136,7 +136,7 @@ pub never_over : (w : World) (m : MemberId) (ms : List MemberId) (scans : List S
 never_over w m ms scans check over is h ch e =
     over_is w m ms scans over h (subst (λ k. IsCheck w ms (slice_get ms most_methods) k) is ch) (e ∙ ap (λ k. first_from (checked_scan k ms) 0 scans) is)
 
-ordered_by : (w : World) (m : MemberId) (ms : List MemberId) (scans : List Scan) (numbers order : List ℕ) (methods : List Reached) → IsListed w m ms scans → IsCheck w ms (slice_get ms most_methods) (Back numbers)
+ordered_by : (w : World) (m : MemberId) (ms : List MemberId) (scans : List Scan) (numbers order : List ℕ) (methods : List Plan) → IsListed w m ms scans → IsCheck w ms (slice_get ms most_methods) (Back numbers)
     → None ≡ first_from (checked_scan (Back numbers) ms) 0 scans → methods ≡ map planned_by scans → IsByNumber numbers order → IsCalleesFirst methods order
 ordered_by w m ms scans numbers order methods h ch e made by =
     let gives = flow_gives w m ms scans (Back numbers) methods h ch e made in
@@ -145,7 +145,7 @@ ordered_by w m ms scans numbers order methods h ch e made by =
     let none : first_fault w None (reached w m) ≡ None = no_fault most_methods w (reached w m) tells.few parts.0 in
     subst (λ p. IsCalleesFirst p order) parts.1 (callees_first w (reached w m) none numbers order tells by)
 
-pub ordered : (w : World) (m : MemberId) (ms : List MemberId) (scans : List Scan) (check : Check) (numbers order : List ℕ) (methods : List Reached) → check ≡ Back numbers → IsListed w m ms scans → IsCheck w ms (slice_get ms most_methods) check
+pub ordered : (w : World) (m : MemberId) (ms : List MemberId) (scans : List Scan) (check : Check) (numbers order : List ℕ) (methods : List Plan) → check ≡ Back numbers → IsListed w m ms scans → IsCheck w ms (slice_get ms most_methods) check
     → None ≡ first_from (checked_scan check ms) 0 scans → methods ≡ map planned_by scans → IsByNumber numbers order → IsCalleesFirst methods order
 ordered w m ms scans check numbers order methods is h ch e made by =
     ordered_by w m ms scans numbers order methods h (subst (λ k. IsCheck w ms (slice_get ms most_methods) k) is ch) (e ∙ ap (λ k. first_from (checked_scan k ms) 0 scans) is) made by

@@ -10,7 +10,7 @@ use Rattle.class_pool.specs.declared.target.Target.{Target}
 use Rattle.world.specs.declared.member.MemberId.{MemberId}
 use Rattle.class_hierarchy.specs.World.{World}
 use Rattle.code_flow.specs.declared.fault.FlowFault.{FlowFault}
-use Rattle.code_flow.specs.declared.program.Reached.{Reached}
+use Rattle.code_flow.specs.Plans.{Plan}
 use Rattle.code_flow.specs.Judging.{Judged, places_of}
 use Rattle.code_flow.specs.Listing.{most_methods, callees, reached, targets_at, Leads}
 use Rattle.code_flow.specs.Listing.Leads.{calls, through as leads_through}
@@ -28,23 +28,23 @@ unfolding planned
 planned_method w m = refl
 
 -- the methods of the program are the listed ones
-pub in_program : (w : World) (ms : List MemberId) (r : Reached) → Contains (map (planned w) ms) r → Contains ms r.method × (r ≡ planned w r.method)
+pub in_program : (w : World) (ms : List MemberId) (r : Plan) → Contains (map (planned w) ms) r → Contains ms r.method × (r ≡ planned w r.method)
 in_program w ms r h =
     let from = from_map (planned w) ms r h in
-    let same : from.0 ≡ r.method = sym (planned_method w from.0) ∙ ap (λ (x : Reached). x.method) from.2 in
+    let same : from.0 ≡ r.method = sym (planned_method w from.0) ∙ ap (λ (x : Plan). x.method) from.2 in
     (subst (λ (x : MemberId). Contains ms x) same from.1, sym from.2 ∙ ap (λ (x : MemberId). planned w x) same)
 
 pub listed_methods : (w : World) (ms : List MemberId) (t : MemberId) → Contains ms t → Contains (map (λ r. r.method) (map (planned w) ms)) t
 listed_methods w ms t h =
     subst (λ (x : MemberId). Contains (map (λ r. r.method) (map (planned w) ms)) x) (planned_method w t)
-    (in_map (λ (r : Reached). r.method) (map (planned w) ms) (planned w t) (in_map (planned w) ms t h))
+    (in_map (λ (r : Plan). r.method) (map (planned w) ms) (planned w t) (in_map (planned w) ms t h))
 
 -- a call of the program stands at some place of its method
 pub call_place : (w : World) (ms : List MemberId) (m t : MemberId) → Calls (map (planned w) ms) m t → Contains ms m × ((place : Judged) × Contains (places_of w m) place × Contains (targets_at place) t)
 call_place w ms m t c =
     let caller = in_program w ms c.caller c.listed in
     let own : c.caller ≡ planned w m = caller.1 ∙ ap (λ (x : MemberId). planned w x) c.is_caller in
-    let place = instruction_place w m c.instruction (subst (λ (r : Reached). Contains r.instructions c.instruction) own c.stands) in (
+    let place = instruction_place w m c.instruction (subst (λ (r : Plan). Contains r.instructions c.instruction) own c.stands) in (
       subst (λ (x : MemberId). Contains ms x) c.is_caller caller.0,
       (place.0, place.1, subst (λ (ts : List MemberId). Contains ts t) (sym place.2) c.calls),
     )
@@ -62,17 +62,17 @@ map_begins : (w : World) (ms : List MemberId) (m : MemberId) → slice_get ms 0 
 map_begins w [] m h = absurd cc
 map_begins w (x ∷ ms) m h = ap (λ (o : Option MemberId). option_map (planned w) o) h
 
-map_once : (w : World) (ms : List MemberId) (m : MemberId) → AllPairs (λ (a b : MemberId). ¬ (a ≡ b)) ms → AllPairs (λ (a b : Reached). ¬ (a.method ≡ b.method)) (map (planned w) ms)
+map_once : (w : World) (ms : List MemberId) (m : MemberId) → AllPairs (λ (a b : MemberId). ¬ (a ≡ b)) ms → AllPairs (λ (a b : Plan). ¬ (a.method ≡ b.method)) (map (planned w) ms)
 map_once w ms m apart i j d lt within same =
     let short : j < length ms = omega (arith, within, length-map ms (planned w)) in
-    let one : (get_or (map (planned w) ms) i d).method ≡ get_or ms i m = ap (λ (r : Reached). r.method) (get_or-map (planned w) ms i m d (omega arith)) ∙ planned_method w (get_or ms i m) in
-    let other : (get_or (map (planned w) ms) j d).method ≡ get_or ms j m = ap (λ (r : Reached). r.method) (get_or-map (planned w) ms j m d short) ∙ planned_method w (get_or ms j m) in
+    let one : (get_or (map (planned w) ms) i d).method ≡ get_or ms i m = ap (λ (r : Plan). r.method) (get_or-map (planned w) ms i m d (omega arith)) ∙ planned_method w (get_or ms i m) in
+    let other : (get_or (map (planned w) ms) j d).method ≡ get_or ms j m = ap (λ (r : Plan). r.method) (get_or-map (planned w) ms j m d short) ∙ planned_method w (get_or ms j m) in
     apart i j m lt short (sym one ∙ (same ∙ other))
 
 -- ---- where no fault stands
 
 module _ (w : World) (m : MemberId) (few : length (reached w m) ≤ most_methods) (none : first_fault w None (reached w m) ≡ None) where
-  all_free : (x : MemberId) → Contains (reached w m) x → AllByRecursion IsFree (places_of w x)
+  pub all_free : (x : MemberId) → Contains (reached w m) x → AllByRecursion IsFree (places_of w x)
   all_free x h =
       recursion_from_All IsFree (places_of w x) (λ k d lt.
       let place = get_or (places_of w x) k d in
@@ -105,7 +105,7 @@ module _ (w : World) (m : MemberId) (few : length (reached w m) ≤ most_methods
 
 -- ---- the answer
 
-pub answered : (program made : List Reached) (fault : Option FlowFault) → unless made fault ≡ Ok program → (fault ≡ None) × (made ≡ program)
+pub answered : (program made : List Plan) (fault : Option FlowFault) → unless made fault ≡ Ok program → (fault ≡ None) × (made ≡ program)
 answered program made None h = (refl, cc)
 answered program made (Some fault) h = absurd cc
 
@@ -121,12 +121,12 @@ no_fault n w ms le none =
     ap (λ (l : List MemberId). first_fault w None l) (sym (take_all n ms le))
     ∙ (ap (λ (o : Option MemberId). first_fault w o (take n ms)) (sym (over_none n ms le)) ∙ none)
 
-flow_from_is : (w : World) (m : MemberId) (program : List Reached) → flow_from w (reached w m) ≡ Ok program → IsProgram w m program
+pub flow_from_is : (w : World) (m : MemberId) (program : List Plan) → flow_from w (reached w m) ≡ Ok program → IsProgram w m program
 flow_from_is w m program h =
     let parts = answered program (map (planned w) (reached w m)) (first_fault w (slice_get (reached w m) most_methods) (take most_methods (reached w m))) h in
     let few = few_without_fault most_methods (omega arith) w m (reached w m) (reached_looked w m) parts.0 in
-    subst (λ (p : List Reached). IsProgram w m p) parts.1 (is_program w m few (no_fault most_methods w (reached w m) few parts.0))
+    subst (λ (p : List Plan). IsProgram w m p) parts.1 (is_program w m few (no_fault most_methods w (reached w m) few parts.0))
 
-pub flow_is_program : (w : World) (target : Target) (m : MemberId) (program : List Reached) → method_named w target ≡ Some m → flow_of w target ≡ Ok program → IsProgram w m program
+pub flow_is_program : (w : World) (target : Target) (m : MemberId) (program : List Plan) → method_named w target ≡ Some m → flow_of w target ≡ Ok program → IsProgram w m program
 unfolding flow_of
 flow_is_program w target m program named h = flow_from_is w m program (ap (λ (o : Option MemberId). flow_at w o) (sym named) ∙ h)

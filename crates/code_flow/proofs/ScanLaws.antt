@@ -5,15 +5,17 @@ use Rattle.std.specs.Option.{option_or}
 use Rattle.std.proofs.lemmas.Grind.{flat_map-append}
 use Rattle.class_reader.specs.declared.class.Method.{Method}
 use Rattle.class_reader.specs.declared.class.Code.{Code}
+use Rattle.op_table.specs.declared.construct.Construct.{Construct}
 use Rattle.op_table.specs.declared.construct.Construct.TheVariants as constructs
 use Rattle.world.specs.declared.member.MemberId.{MemberId}
 use Rattle.class_hierarchy.specs.World.{World}
 use Rattle.linking.specs.Methods.{method_at}
 use Rattle.code_flow.specs.declared.fault.FlowFault.{FlowFault}
-use Rattle.code_flow.specs.Placing.{Placed, placed, broken}
+use Rattle.code_blocks.specs.declared.instruction.Placed.{Placed}
+use Rattle.code_blocks.specs.Placing.{placed, broken}
 use Rattle.class_reader.specs.Flags.{is_synchronized}
 use Rattle.descriptors.specs.Texts.{names_float}
-use Rattle.code_flow.specs.Judging.{Judged, has_handlers, judged_if, against_method, against_break, judged_place, places_in, places_at, places_of}
+use Rattle.code_flow.specs.Judging.{Judged, has_handlers, is_empty, judged_if, against_method, against_break, judged_place, places_in, places_at, places_of}
 use Rattle.code_flow.specs.Listing.{targets_at, callees}
 use Rattle.code_flow.specs.Flow.{first_of, fault_of, first_in, planned_place, planned_in, planned}
 use Rattle.code_flow.specs.Scanning.{site_of, first_against, scan_in, scan_at, scan_of}
@@ -21,15 +23,19 @@ use Rattle.code_flow.specs.Scanned.{site_targets, unsupported_at, unsupported_op
 
 -- ---- callees
 
-none_three : (a b c : Bool) → flat_map targets_at (judged_if a constructs.Float ++ judged_if b constructs.Synchronized ++ judged_if c constructs.Handler) ≡ []
-none_three true true true = refl
-none_three true true false = refl
-none_three true false true = refl
-none_three true false false = refl
-none_three false true true = refl
-none_three false true false = refl
-none_three false false true = refl
-none_three false false false = refl
+none_at : (b : Bool) (construct : Construct) → flat_map targets_at (judged_if b construct) ≡ []
+none_at true construct = refl
+none_at false construct = refl
+
+none_before : (b : Bool) (construct : Construct) (places : List Judged) → flat_map targets_at places ≡ [] → flat_map targets_at (places ++ judged_if b construct) ≡ []
+none_before b construct places none = flat_map-append targets_at places (judged_if b construct) ∙ rw (none, none_at b construct) refl
+
+none_against : (method : Method) (code : Code) → flat_map targets_at (against_method method code) ≡ []
+none_against method code =
+    let floats : List Judged = judged_if (names_float method.desc) constructs.Float in
+    let locks : List Judged = floats ++ judged_if (is_synchronized method.flags) constructs.Synchronized in
+    none_before (is_empty code.bytes) constructs.FallsOff (locks ++ judged_if (has_handlers code.handlers) constructs.Handler)
+    (none_before (has_handlers code.handlers) constructs.Handler locks (none_before (is_synchronized method.flags) constructs.Synchronized floats (none_at (names_float method.desc) constructs.Float)))
 
 none_broken : (o : Option ℕ) → flat_map targets_at (against_break o) ≡ []
 none_broken None = refl
@@ -50,7 +56,7 @@ callees_in w m method (Some code) =
     ∙ ap (λ l. flat_map targets_at (against_method method code ++ map (judged_place w m.class code.bytes) (placed code.bytes)) ++ l) (none_broken (broken code.bytes))
     ∙ append_none (flat_map targets_at (against_method method code ++ map (judged_place w m.class code.bytes) (placed code.bytes)))
     ∙ flat_map-append targets_at (against_method method code) (map (judged_place w m.class code.bytes) (placed code.bytes))
-    ∙ ap (λ l. l ++ flat_map targets_at (map (judged_place w m.class code.bytes) (placed code.bytes))) (none_three (names_float method.desc) (is_synchronized method.flags) (has_handlers code.handlers))
+    ∙ ap (λ l. l ++ flat_map targets_at (map (judged_place w m.class code.bytes) (placed code.bytes))) (none_against method code)
     ∙ same_targets w m.class code.bytes (placed code.bytes)
 
 callees_at : (w : World) (m : MemberId) (o : Option Method) → flat_map targets_at (places_at w m.class o) ≡ flat_map site_targets (scan_at w m o).body.sites
@@ -80,14 +86,15 @@ first_map f g (x ∷ xs) = ap (λ o. option_or (f (g x)) o) (first_map f g xs)
 abbrev place_fault : World → Option MemberId → MemberId → Judged → Option FlowFault
 place_fault w over m place = fault_of w over m place.pc place.verdict
 
-three : (w : World) (over : Option MemberId) (m : MemberId) (a b c : Bool)
-    → first_of (place_fault w over m) (judged_if a constructs.Float ++ judged_if b constructs.Synchronized ++ judged_if c constructs.Handler)
-    ≡ unsupported_at m 0 (if a then Some constructs.Float else if b then Some constructs.Synchronized else if c then Some constructs.Handler else None)
+four : (w : World) (over : Option MemberId) (m : MemberId) (a b c d : Bool)
+    → first_of (place_fault w over m) (judged_if a constructs.Float ++ judged_if b constructs.Synchronized ++ judged_if c constructs.Handler ++ judged_if d constructs.FallsOff)
+    ≡ unsupported_at m 0 (if a then Some constructs.Float else if b then Some constructs.Synchronized else if c then Some constructs.Handler else if d then Some constructs.FallsOff else None)
 unfolding first_of
-three w over m true b c = refl
-three w over m false true c = refl
-three w over m false false true = refl
-three w over m false false false = refl
+four w over m true b c d = refl
+four w over m false true c d = refl
+four w over m false false true d = refl
+four w over m false false false true = refl
+four w over m false false false false = refl
 
 broken_fault : (w : World) (over : Option MemberId) (m : MemberId) (o : Option ℕ) → first_of (place_fault w over m) (against_break o) ≡ unsupported_opcode m o
 unfolding first_of
@@ -106,7 +113,7 @@ fault_in w over m method (Some code) =
     first_append (place_fault w over m) (against_method method code ++ map (judged_place w m.class code.bytes) (placed code.bytes)) (against_break (broken code.bytes))
     ∙ ap (λ o. option_or o (first_of (place_fault w over m) (against_break (broken code.bytes)))) (first_append (place_fault w over m) (against_method method code) (map (judged_place w m.class code.bytes) (placed code.bytes)))
     ∙ or_assoc (first_of (place_fault w over m) (against_method method code)) (first_of (place_fault w over m) (map (judged_place w m.class code.bytes) (placed code.bytes))) (first_of (place_fault w over m) (against_break (broken code.bytes)))
-    ∙ ap (λ o. option_or o (option_or (first_of (place_fault w over m) (map (judged_place w m.class code.bytes) (placed code.bytes))) (first_of (place_fault w over m) (against_break (broken code.bytes))))) (three w over m (names_float method.desc) (is_synchronized method.flags) (has_handlers code.handlers))
+    ∙ ap (λ o. option_or o (option_or (first_of (place_fault w over m) (map (judged_place w m.class code.bytes) (placed code.bytes))) (first_of (place_fault w over m) (against_break (broken code.bytes))))) (four w over m (names_float method.desc) (is_synchronized method.flags) (has_handlers code.handlers) (is_empty code.bytes))
     ∙ ap (λ o. option_or (unsupported_at m 0 (first_against method code)) (option_or o (first_of (place_fault w over m) (against_break (broken code.bytes))))) (sites_fault w over m code.bytes (placed code.bytes))
     ∙ ap (λ o. option_or (unsupported_at m 0 (first_against method code)) (option_or (first_of (site_fault w over m) (map (site_of w m.class code.bytes) (placed code.bytes))) o)) (broken_fault w over m (broken code.bytes))
 

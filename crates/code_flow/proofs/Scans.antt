@@ -1,8 +1,9 @@
 -- What a scan of a method finds.
-use Rattle.std.proofs.Common.{◌≡◌, ℕ, zero, suc, ◌<◌, List, [], ◌∷◌, length, Option, Some, None, arith, refl, ◌∙◌}
-use Rattle.std.specs.Prelude.{slice_get, slice_index_or}
+use Rattle.std.proofs.Common.{◌≡◌, [], Option, Some, None, refl, ◌∙◌}
+use Rattle.std.specs.Prelude.{slice_get}
 use Rattle.std.proofs.lemmas.Option.{slice_get-get_or}
 use Rattle.class_reader.specs.declared.class.Code.{Code}
+use Rattle.op_table.specs.declared.construct.Construct.TheVariants as constructs
 use Rattle.world.specs.declared.member.MemberId.{MemberId}
 use Rattle.class_hierarchy.specs.World.{World, constructor, object_class, class_at}
 use Rattle.world.specs.Selection.{method_of}
@@ -24,12 +25,12 @@ scan_there w m there = rw (method_there w m there) refl
 pub scanned : (w : World) (m : MemberId) (code : Code) → HasMethod w m → (method_of w m).code ≡ Some code → scan_of w m ≡ record { method = m; against = first_against (method_of w m) code; body = sites_of w m.class code.bytes }
 scanned w m code there e = scan_there w m there ∙ rw e refl
 
-pub none_scanned : (w : World) (m : MemberId) → HasMethod w m → (method_of w m).code ≡ None → scan_of w m ≡ record { method = m; against = None; body = record { sites = []; broken = None } }
+pub none_scanned : (w : World) (m : MemberId) → HasMethod w m → (method_of w m).code ≡ None → scan_of w m ≡ record { method = m; against = Some constructs.AbstractTarget; body = record { sites = []; broken = None } }
 none_scanned w m there e = scan_there w m there ∙ rw e refl
 
 -- ---- its code
 
-coded_at : (w : World) (m : MemberId) (o : Option Code) → HasMethod w m → (method_of w m).code ≡ o → code_at w m ≡ o
+pub coded_at : (w : World) (m : MemberId) (o : Option Code) → HasMethod w m → (method_of w m).code ≡ o → code_at w m ≡ o
 coded_at w m o there e = rw (method_there w m there) e
 
 pub coded : (w : World) (m : MemberId) (code : Code) → HasMethod w m → (method_of w m).code ≡ Some code → with_code w m ≡ Some m

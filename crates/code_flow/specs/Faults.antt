@@ -1,5 +1,5 @@
 -- What is known of what stands against a program.
-use Rattle.std.specs.Prelude.{◌≡◌, ◌↔◌, ◌⊎◌, ℕ, ◌<◌, List, length, Option, Some, None, Err, slice_get, Contains, AllPairs}
+use Rattle.std.specs.Prelude.{◌≡◌, ◌↔◌, ◌⊎◌, ℕ, ◌<◌, length, Option, Some, None, Err, slice_get, Contains, AllPairs}
 use Rattle.class_pool.specs.declared.target.Target.{Target}
 use Rattle.world.specs.declared.member.MemberId.{MemberId}
 use Rattle.class_hierarchy.specs.World.{World}

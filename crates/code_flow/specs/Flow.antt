@@ -12,9 +12,9 @@ use Rattle.world.specs.Resolution.{member, is_method}
 use Rattle.linking.specs.Methods.{code_at}
 use Rattle.code_flow.specs.declared.fault.FlowFault.{FlowFault}
 use Rattle.code_flow.specs.declared.fault.FlowFault.TheVariants.{NoMethod, Unsupported, TooManyMethods}
-use Rattle.code_flow.specs.declared.program.Planned.{Planned}
-use Rattle.code_flow.specs.declared.program.Reached.{Reached}
-use Rattle.code_flow.specs.Placing.{Placed, placed}
+use Rattle.code_flow.specs.Plans.{Planned, Plan}
+use Rattle.code_blocks.specs.declared.instruction.Placed.{Placed}
+use Rattle.code_blocks.specs.Placing.{placed}
 use Rattle.code_flow.specs.Judging.{judged, places_of}
 use Rattle.code_flow.specs.Listing.{most_methods, is_among, targets_in, reached}
 
@@ -62,27 +62,31 @@ first_fault w over ms = first_of (first_in w over) ms
 -- ---- the program
 
 abbrev pub planned_place : World → ℕ → List ℕ → Placed → Planned
-planned_place w current code p = record { pc = p.pc; instr = p.instr; targets = targets_in (judged w current code p) }
+planned_place w current code p = record {
+  pc = p.pc;
+  instr = p.instr;
+  targets = targets_in (judged w current code p);
+}
 
 abbrev pub planned_in : World → ℕ → Option Code → List Planned
 planned_in w current None = []
 planned_in w current (Some code) = map (planned_place w current code.bytes) (placed code.bytes)
 
 -- a method with its instructions, and the methods that each can call
-unfoldable pub planned : World → MemberId → Reached
+unfoldable pub planned : World → MemberId → Plan
 planned w m = record { method = m; instructions = planned_in w m.class (code_at w m) }
 
-abbrev pub unless : List Reached → Option FlowFault → Result (List Reached) FlowFault
+abbrev pub unless : List Plan → Option FlowFault → Result (List Plan) FlowFault
 unless program None = Ok program
 unless program (Some fault) = Err fault
 
-abbrev pub flow_from : World → List MemberId → Result (List Reached) FlowFault
+abbrev pub flow_from : World → List MemberId → Result (List Plan) FlowFault
 flow_from w ms = unless (map (planned w) ms) (first_fault w (slice_get ms most_methods) (take most_methods ms))
 
-abbrev pub flow_at : World → Option MemberId → Result (List Reached) FlowFault
+abbrev pub flow_at : World → Option MemberId → Result (List Plan) FlowFault
 flow_at w None = Err NoMethod
 flow_at w (Some m) = flow_from w (reached w m)
 
 -- the methods that the target reaches, in breadth-first order, or the first fault
-unfoldable pub flow_of : World → Target → Result (List Reached) FlowFault
+unfoldable pub flow_of : World → Target → Result (List Plan) FlowFault
 flow_of w target = flow_at w (method_named w target)

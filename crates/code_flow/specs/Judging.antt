@@ -10,7 +10,6 @@ use Rattle.class_reader.specs.declared.class.Handler.{Handler}
 use Rattle.op_table.specs.Actions.{action_of}
 use Rattle.op_table.specs.declared.acts.Action.{Action}
 use Rattle.op_table.specs.declared.acts.Action.TheVariants as acts
-use Rattle.op_table.specs.declared.acts.Call.{Call}
 use Rattle.op_table.specs.declared.construct.Construct.{Construct}
 use Rattle.op_table.specs.declared.construct.Construct.TheVariants as constructs
 use Rattle.world.specs.declared.member.MemberId.{MemberId}
@@ -21,7 +20,8 @@ use Rattle.linking.specs.References.{against_call}
 use Rattle.linking.specs.Calls.{called_by}
 use Rattle.linking.specs.Members.{made_by}
 use Rattle.linking.specs.Methods.{method_at}
-use Rattle.code_flow.specs.Placing.{Placed, placed, broken, is_last}
+use Rattle.code_blocks.specs.declared.instruction.Placed.{Placed}
+use Rattle.code_blocks.specs.Placing.{placed, broken, is_last}
 
 -- ---- what is known before names are looked up
 
@@ -103,12 +103,17 @@ abbrev pub has_handlers : List Handler → Bool
 has_handlers [] = false
 has_handlers (handler ∷ handlers) = true
 
--- what stands against the method itself, at 0
+abbrev pub is_empty : List ℕ → Bool
+is_empty [] = true
+is_empty (byte ∷ bytes) = false
+
+-- What stands against the method itself, at 0. Code without an instruction is at its end from the beginning.
 abbrev pub against_method : Method → Code → List Judged
 against_method method code =
     judged_if (names_float method.desc) constructs.Float
     ++ judged_if (is_synchronized method.flags) constructs.Synchronized
     ++ judged_if (has_handlers code.handlers) constructs.Handler
+    ++ judged_if (is_empty code.bytes) constructs.FallsOff
 
 abbrev pub against_break : Option ℕ → List Judged
 against_break None = []
@@ -117,8 +122,9 @@ against_break (Some pc) = record { pc = pc; verdict = Err constructs.Opcode } �
 abbrev pub judged_place : World → ℕ → List ℕ → Placed → Judged
 judged_place w current code p = record { pc = p.pc; verdict = judged w current code p }
 
+-- no method without code can be run
 abbrev pub places_in : World → ℕ → Method → Option Code → List Judged
-places_in w current method None = []
+places_in w current method None = judged_if true constructs.AbstractTarget
 places_in w current method (Some code) =
     against_method method code
     ++ map (judged_place w current code.bytes) (placed code.bytes)

@@ -1,6 +1,6 @@
-pub mod Placing
 pub mod Judging
 pub mod Listing
+pub mod Plans
 pub mod Flow
 pub mod Program
 pub mod Scanning

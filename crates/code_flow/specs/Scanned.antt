@@ -8,12 +8,12 @@ use Rattle.class_hierarchy.specs.World.{World}
 use Rattle.world.specs.Tables.{HasMethod}
 use Rattle.code_flow.specs.declared.fault.FlowFault.{FlowFault}
 use Rattle.code_flow.specs.declared.fault.FlowFault.TheVariants.{Unsupported}
-use Rattle.code_flow.specs.declared.program.Planned.{Planned}
-use Rattle.code_flow.specs.declared.program.Reached.{Reached}
+use Rattle.code_flow.specs.Plans.{Planned, Plan}
 use Rattle.code_flow.specs.declared.scanning.Site.{Site}
 use Rattle.code_flow.specs.declared.scanning.Scan.{Scan}
 use Rattle.code_flow.specs.Listing.{targets_in, most_methods, listed, reached}
 use Rattle.code_flow.specs.Flow.{first_of, fault_of}
+use Rattle.code_flow.specs.Program.{HasNoConstruct}
 use Rattle.code_flow.specs.Scanning.{scan_of}
 
 abbrev pub site_targets : Site → List MemberId
@@ -41,8 +41,14 @@ scan_fault w over scan =
 abbrev pub planned_site : Site → Planned
 planned_site site = record { pc = site.pc; instr = site.instr; targets = site_targets site }
 
-abbrev pub planned_by : Scan → Reached
+abbrev pub planned_by : Scan → Plan
 planned_by scan = record { method = scan.method; instructions = map planned_site scan.body.sites }
+
+-- a scan of a method of the world, against which nothing stands
+pub record IsScanned (w : World) (scan : Scan) : Type 0 where
+  pub there : HasMethod w scan.method
+  pub own : scan ≡ scan_of w scan.method
+  pub free : HasNoConstruct w scan.method
 
 -- the first k methods were looked at
 pub record IsListedTo (w : World) (m : MemberId) (k : ℕ) (ms : List MemberId) (scans : List Scan) : Type 0 where

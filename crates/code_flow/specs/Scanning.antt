@@ -10,21 +10,15 @@ use Rattle.linking.specs.Methods.{method_at}
 use Rattle.code_flow.specs.declared.scanning.Site.{Site}
 use Rattle.code_flow.specs.declared.scanning.Sites.{Sites}
 use Rattle.code_flow.specs.declared.scanning.Scan.{Scan}
-use Rattle.code_flow.specs.Placing.{Placed, placed, placed_from, broken, broken_from}
+use Rattle.code_blocks.specs.declared.instruction.Placed.{Placed}
+use Rattle.code_blocks.specs.Placing.{placed, broken}
 use Rattle.class_reader.specs.Flags.{is_synchronized}
 use Rattle.descriptors.specs.Texts.{names_float}
-use Rattle.code_flow.specs.Judging.{has_handlers, judged}
+use Rattle.code_flow.specs.Judging.{has_handlers, is_empty, judged}
 
 -- an instruction with what is known of it
 abbrev pub site_of : World → ℕ → List ℕ → Placed → Site
 site_of w current code p = record { pc = p.pc; instr = p.instr; verdict = judged w current code p }
-
--- of at most n instructions from a place on
-abbrev pub sites_from : World → ℕ → List ℕ → ℕ → ℕ → Sites
-sites_from w current code n pc = record {
-  sites = map (site_of w current code) (placed_from n code pc);
-  broken = broken_from n code pc;
-}
 
 -- of the whole code
 abbrev pub sites_of : World → ℕ → List ℕ → Sites
@@ -35,10 +29,11 @@ abbrev pub first_against : Method → Code → Option Construct
 first_against method code =
     if names_float method.desc then Some constructs.Float
     else if is_synchronized method.flags then Some constructs.Synchronized
-    else if has_handlers code.handlers then Some constructs.Handler else None
+    else if has_handlers code.handlers then Some constructs.Handler
+    else if is_empty code.bytes then Some constructs.FallsOff else None
 
 abbrev pub scan_in : World → MemberId → Method → Option Code → Scan
-scan_in w m method None = record { method = m; against = None; body = record { sites = []; broken = None } }
+scan_in w m method None = record { method = m; against = Some constructs.AbstractTarget; body = record { sites = []; broken = None } }
 scan_in w m method (Some code) = record { method = m; against = first_against method code; body = sites_of w m.class code.bytes }
 
 abbrev pub scan_at : World → MemberId → Option Method → Scan

@@ -1,10 +1,11 @@
 //! The code that a method reaches.
 
-ghost use Rattle.std.specs.Prelude.{◌≡◌, ◌≢◌, Ok, Err, None, IfOk, IfErr, IfSome, slice_get};
+ghost use Rattle.std.specs.Prelude.{All, ◌≡◌, ◌≢◌, Ok, Err, None, IfOk, IfErr, IfSome, slice_get};
 ghost use Rattle.world.specs.Tables.{HasMethod};
 ghost use Rattle.code_flow.specs.declared.fault.FlowFault.TheVariants as fault;
 ghost use Rattle.code_flow.specs.Listing.{most_methods, reached};
 ghost use Rattle.code_flow.specs.Flow.{with_code, method_named, flow_from, flow_of};
+ghost use Rattle.code_flow.specs.Plans.{plans_of, IsReached};
 ghost use Rattle.code_flow.specs.Scanned.{IsListed};
 ghost use Rattle.code_flow.specs.Returning.{IsCheck};
 ghost use Rattle.code_flow.specs.Checking.{checked_scan, first_from};
@@ -65,24 +66,26 @@ fn check_of(alloc: Global, w: &World, m: MemberId, listing: &Listing) -> Result<
 }
 
 // The program of the methods that are reached, which nothing stands against.
-fn program_of(
+fn program_of<'w>(
     alloc: Global,
-    w: &World,
+    w: &'w World,
     m: MemberId,
     listing: &Listing,
     check: &Check,
-) -> Result<Program, FlowFault>
+) -> Result<Program<'w>, FlowFault>
     requires listed { IsListed w.now m listing.now.found listing.now.scans.items }
+    requires there { All (HasMethod w.now) listing.now.found }
     requires check { IsCheck w.now listing.now.found (slice_get listing.now.found most_methods) check.now }
     requires free { None ≡ first_from (checked_scan check.now listing.now.found) 0 listing.now.scans.items }
-    ensures program { IfOk result (λ p. flow_from w.now (reached w.now m) ≡ Ok p) }
+    ensures program { IfOk result (λ p. flow_from w.now (reached w.now m) ≡ Ok (plans_of p)) }
+    ensures bodies { IfOk result (λ p. All (IsReached w.now) p) }
     ensures fault { IfErr result (λ e. e ≡ fault.Memory) }
 {
     match check {
         // Never so: the first method that is too many would be called at some place.
         Check::Over(_) => Err(FlowFault::TooManyMethods),
         Check::Back(numbers) => {
-            let methods = methods_of(alloc, &listing.scans)?;
+            let methods = methods_of(alloc, w, &listing.scans)?;
             let order = order_of(alloc, numbers.as_slice())?;
             Ok(Program::new(methods, order))
         }
@@ -90,9 +93,10 @@ fn program_of(
 }
 
 // The program of the methods that are reached, or the first fault.
-fn flow_from(alloc: Global, w: &World, m: MemberId) -> Result<Program, FlowFault>
+fn flow_from(alloc: Global, w: &World, m: MemberId) -> Result<Program<'_>, FlowFault>
     requires { HasMethod w.now m }
-    ensures program { IfOk result (λ p. flow_from w.now (reached w.now m) ≡ Ok p) }
+    ensures program { IfOk result (λ p. flow_from w.now (reached w.now m) ≡ Ok (plans_of p)) }
+    ensures bodies { IfOk result (λ p. All (IsReached w.now) p) }
     ensures fault { IfErr result (λ e. e ≢ fault.Memory → flow_from w.now (reached w.now m) ≡ Err e) }
 {
     let listing = reached(alloc, w, m)?;
@@ -111,9 +115,10 @@ fn flow_from(alloc: Global, w: &World, m: MemberId) -> Result<Program, FlowFault
 /// construct that isn't analysed, by the order of the methods and then by its place: a call that leads back to its
 /// method is one. `TooManyMethods` where the first call of the 4,097th method stands before all constructs.
 #[tactic(auto, unfolding(crate::specs::Flow::flow_of))]
-pub fn flow(alloc: Global, w: &World, target: &Target) -> Result<Program, FlowFault>
-    // The answer is the program of the definition.
-    ensures program { IfOk result (λ p. flow_of w.now target.now ≡ Ok p) }
+pub fn flow<'w>(alloc: Global, w: &'w World, target: &Target) -> Result<Program<'w>, FlowFault>
+    // The answer is the program of the definition, each method with its body.
+    ensures program { IfOk result (λ p. flow_of w.now target.now ≡ Ok (plans_of p)) }
+    ensures bodies { IfOk result (λ p. All (IsReached w.now) p) }
     ensures fault { IfErr result (λ e. e ≢ fault.Memory → flow_of w.now target.now ≡ Err e) }
 {
     match method_named(w, target) {

@@ -5,7 +5,7 @@ ghost use Rattle.std.specs.Option.{option_map, option_copied};
 ghost use Rattle.class_hierarchy.specs.World.{class_at};
 ghost use Rattle.world.specs.Tables.{HasMethod};
 ghost use Rattle.linking.specs.Told.{Tells};
-ghost use Rattle.code_flow.specs.Placing.{is_last};
+ghost use Rattle.code_blocks.specs.Placing.{is_last};
 ghost use Rattle.code_flow.specs.Judging.{shown, is_end, runs_none, meant, judged};
 
 use class_pool::{Pool, Sequence};

@@ -17,4 +17,4 @@ mod scanning;
 pub use fault::FlowFault;
 pub use flowing::flow;
 pub use laws::{faults_are_first, flows_are_programs, listed_are_reached};
-pub use program::{Planned, Program, Reached};
+pub use program::{Program, Reached};

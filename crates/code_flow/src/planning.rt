@@ -1,17 +1,26 @@
-//! The methods of a program, with their instructions.
+//! The methods of a program, with their bodies.
 
-ghost use Rattle.std.specs.Prelude.{◌≡◌, map, IfOk};
-ghost use Rattle.code_flow.specs.Scanned.{planned_site, planned_by};
+ghost use Rattle.std.specs.Prelude.{◌≡◌, ◌≤◌, length, map, All, IfOk, Some};
+ghost use Rattle.linking.specs.Methods.{code_at};
+ghost use Rattle.world.specs.Selection.{method_of};
+ghost use Rattle.class_hierarchy.specs.World.{class_at};
+ghost use Rattle.world.specs.Tables.{HasMethod};
+ghost use Rattle.method_body.specs.Bodies.{IsBody};
+ghost use Rattle.code_flow.specs.Plans.{plan_of, IsReached};
+ghost use Rattle.code_flow.specs.Program.{HasNoConstruct};
+ghost use Rattle.code_flow.specs.Scanned.{planned_by, site_targets, IsScanned};
 
-use crate::program::{Planned, Reached};
+use crate::program::Reached;
 use crate::scanning::{Scan, Site};
 use class_pool::Sequence;
+use class_reader::Code;
+use method_body::Body;
 use std::alloc::{AllocError, Global};
-use world::MemberId;
+use world::{MemberId, World};
 
 // The methods that an instruction can call.
 fn targets_of(alloc: Global, site: &Site) -> Result<Sequence<MemberId>, AllocError>
-    ensures { IfOk result (λ ts. ts ≡ (planned_site site.now).targets) }
+    ensures { IfOk result (λ ts. ts ≡ site_targets site.now) }
 {
     match &site.verdict {
         Ok(targets) => {
@@ -22,42 +31,67 @@ fn targets_of(alloc: Global, site: &Site) -> Result<Sequence<MemberId>, AllocErr
     }
 }
 
-fn planned_site(alloc: Global, site: &Site) -> Result<Planned, AllocError>
-    ensures { IfOk result (λ p. p ≡ planned_site site.now) }
+// The methods that each instruction can call.
+fn all_targets(alloc: Global, sites: &[Site]) -> Result<Sequence<Sequence<MemberId>>, AllocError>
+    ensures { IfOk result (λ ts. ts ≡ map site_targets sites.now) }
 {
-    Ok(Planned {
-        pc: site.pc,
-        instr: site.instr,
-        targets: targets_of(alloc, site)?,
-    })
-}
-
-fn planned_sites(alloc: Global, sites: &[Site]) -> Result<Sequence<Planned>, AllocError>
-    ensures { IfOk result (λ ps. ps ≡ map planned_site sites.now) }
-{
-    let mut planned = Sequence::new(alloc);
+    let mut all = Sequence::new(alloc);
     for site in sites {
-        planned.push(planned_site(alloc, site)?)?;
+        all.push(targets_of(alloc, site)?)?;
     }
-    Ok(planned)
+    Ok(all)
 }
 
-fn planned(alloc: Global, scan: &Scan) -> Result<Reached, AllocError>
-    ensures { IfOk result (λ r. r ≡ planned_by scan.now) }
+// The code of a method against which nothing stands.
+fn code_of(w: &World, m: MemberId) -> &Code
+    requires there { HasMethod w.now m }
+    requires free { HasNoConstruct w.now m }
+    ensures code { code_at w.now m ≡ Some result.now }
+    ensures short { length result.now.bytes ≤ 65535 }
 {
+    match w.code_at(m) {
+        Some(code) => code,
+        None => unreachable!(),
+    }
+}
+
+// The body of such a method.
+fn body_of(alloc: Global, w: &World, m: MemberId) -> Result<Body<'_>, AllocError>
+    requires there { HasMethod w.now m }
+    requires free { HasNoConstruct w.now m }
+    ensures class { IfOk result (λ b. b.class ≡ class_at w.now m.class) }
+    ensures method { IfOk result (λ b. b.method ≡ method_of w.now m) }
+    ensures body { IfOk result (λ b. IsBody b) }
+{
+    Body::new(alloc, w.record_at(m.class), w.method_at(m), code_of(w, m))
+}
+
+fn planned<'w>(alloc: Global, w: &'w World, scan: &Scan) -> Result<Reached<'w>, AllocError>
+    requires { IsScanned w.now scan.now }
+    ensures plan { IfOk result (λ r. plan_of r ≡ planned_by scan.now) }
+    ensures reached { IfOk result (λ r. IsReached w.now r) }
+{
+    let body = body_of(alloc, w, scan.method)?;
     Ok(Reached {
         method: scan.method,
-        instructions: planned_sites(alloc, scan.body.sites.as_slice())?,
+        body,
+        targets: all_targets(alloc, scan.body.sites.as_slice())?,
     })
 }
 
-/// The methods that were scanned, with their instructions.
-pub(crate) fn methods_of(alloc: Global, scans: &[Scan]) -> Result<Vec<Reached>, AllocError>
-    ensures { IfOk result (λ methods. methods.items ≡ map planned_by scans.now) }
+/// The methods that were scanned, against none of which something stands, with their bodies.
+pub(crate) fn methods_of<'w>(
+    alloc: Global,
+    w: &'w World,
+    scans: &[Scan],
+) -> Result<Vec<Reached<'w>>, AllocError>
+    requires { All (IsScanned w.now) scans.now }
+    ensures plans { IfOk result (λ methods. map plan_of methods.items ≡ map planned_by scans.now) }
+    ensures reached { IfOk result (λ methods. All (IsReached w.now) methods.items) }
 {
     let mut methods = Vec::new(alloc);
     for scan in scans {
-        methods.push(planned(alloc, scan)?)?;
+        methods.push(planned(alloc, w, scan)?)?;
     }
     Ok(methods)
 }

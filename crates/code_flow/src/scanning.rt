@@ -1,18 +1,19 @@
 //! One scan of a method's code.
 
-ghost use Rattle.std.specs.Prelude.{◌≡◌, ◌+◌, ◌<◌, ◌≤◌, length, IfOk, IsTrue, All};
+ghost use Rattle.std.specs.Prelude.{◌≡◌, ◌+◌, ◌<◌, ◌≤◌, length, Ok, IfOk, All};
 ghost use Rattle.world.specs.Selection.{method_of};
 ghost use Rattle.world.specs.Tables.{HasMethod};
-ghost use Rattle.code_flow.specs.Judging.{has_handlers, judged};
+ghost use Rattle.code_flow.specs.Judging.{has_handlers, is_empty, judged};
 ghost use Rattle.code_flow.specs.Scanning.{site_of, sites_of, first_against, scan_of};
 ghost use Rattle.code_flow.specs.ThereScanning.{HasTargets, AreThere};
 
 use crate::judging::judged;
 use class_pool::Sequence;
 use class_reader::{Code, Handler, Method, is_synchronized};
+use code_blocks::{Placed, code_is_laid_out, placed};
 use descriptors::names_float;
 use linking::LinkFault;
-use op_table::{Construct, Instr, decode, instrs_fit};
+use op_table::{Construct, Instr};
 use std::alloc::{AllocError, Global};
 use world::{MemberId, World};
 
@@ -45,21 +46,24 @@ fn site_of(
     w: &World,
     current: u32,
     code: &[u8],
-    pc: u32,
-    instr: Instr,
+    p: &Placed,
 ) -> Result<Site, AllocError>
     requires current { current < length w.now }
-    requires within { pc + instr.len ≤ length code.now }
+    requires within { p.now.pc + p.now.instr.len ≤ length code.now }
     requires small { length code.now ≤ 65535 }
     ensures there { IfOk result (λ s. HasTargets w.now s) }
-    ensures exact { IfOk result (λ s. s ≡ site_of w.now current code.now (record { pc = pc; instr = instr })) }
+    ensures exact { IfOk result (λ s. s ≡ site_of w.now current code.now p.now) }
 {
-    let verdict = match judged(alloc, w, current, code, pc, &instr) {
+    let verdict = match judged(alloc, w, current, code, p.pc, &p.instr) {
         Ok(targets) => Ok(targets),
         Err(LinkFault::Against(construct)) => Err(construct),
         Err(LinkFault::Memory) => return Err(AllocError),
     };
-    Ok(Site { pc, instr, verdict })
+    Ok(Site {
+        pc: p.pc,
+        instr: p.instr,
+        verdict,
+    })
 }
 
 // What is known of all instructions.
@@ -69,32 +73,15 @@ fn sites_of(alloc: Global, w: &World, current: u32, code: &[u8]) -> Result<Sites
     ensures there { IfOk result (λ s. All (HasTargets w.now) s.sites) }
     ensures exact { IfOk result (λ s. s ≡ sites_of w.now current code.now) }
 {
-    instrs_fit();
+    code_is_laid_out();
+    let placement = placed(alloc, code)?;
     let mut sites = Sequence::new(alloc);
-    let mut pc: u32 = 0;
-    for _ in 0..code.len() {
-        if !((pc as usize) < code.len()) {
-            return Ok(Sites {
-                sites,
-                broken: None,
-            });
-        }
-        match decode(code, pc) {
-            Ok(instr) => {
-                sites.push(site_of(alloc, w, current, code, pc, instr)?)?;
-                pc += instr.len;
-            }
-            Err(_) => {
-                return Ok(Sites {
-                    sites,
-                    broken: Some(pc),
-                });
-            }
-        }
+    for p in placement.instructions.as_slice() {
+        sites.push(site_of(alloc, w, current, code, p)?)?;
     }
     Ok(Sites {
         sites,
-        broken: None,
+        broken: placement.broken,
     })
 }
 
@@ -104,6 +91,15 @@ fn has_handlers(handlers: &[Handler]) -> bool
     match handlers {
         [] => false,
         [..] => true,
+    }
+}
+
+fn is_empty(code: &[u8]) -> bool
+    ensures { result ≡ is_empty code.now }
+{
+    match code {
+        [] => true,
+        [..] => false,
     }
 }
 
@@ -119,6 +115,9 @@ fn first_against(method: &Method, code: &Code) -> Option<Construct>
     }
     if has_handlers(code.handlers.as_slice()) {
         return Some(Construct::Handler);
+    }
+    if is_empty(code.bytes.as_slice()) {
+        return Some(Construct::FallsOff);
     }
     None
 }
@@ -141,7 +140,7 @@ pub(crate) fn scan_of(alloc: Global, w: &World, m: MemberId) -> Result<Scan, All
         }
         None => Ok(Scan {
             method: m,
-            against: None,
+            against: Some(Construct::AbstractTarget),
             body: Sites {
                 sites: Sequence::new(alloc),
                 broken: None,

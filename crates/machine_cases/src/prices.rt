@@ -1,12 +1,11 @@
 //! The methods that a method of given classes reaches by calls, and what each costs: a question, the method, the word
 //! `in`, and the classes' names.
 
-ghost use Rattle.call_costs.specs.Knowing.{IsEachOnce};
-
 use call_costs::{CostFault, Costs, costs};
 use case_texts::Case;
 use class_pool::Target;
-use code_flow::{FlowFault, Planned, Program, flow, flows_are_programs};
+use code_blocks::Instruction;
+use code_flow::{FlowFault, Program, flow};
 use cost_model::CostModel;
 use op_table::Construct;
 use world::{MemberId, World};
@@ -39,34 +38,35 @@ fn put_fault(case: &mut Case<'_>, world: &World, fault: FlowFault) {
 }
 
 /// The place of an instruction, and the classes of the methods that it can call.
-fn put_instruction(case: &mut Case<'_>, world: &World, planned: &Planned) {
-    case.show_word(&planned.pc);
-    for target in planned.targets.as_slice() {
+fn put_instruction(case: &mut Case<'_>, world: &World, i: &Instruction, targets: &[MemberId]) {
+    case.show_word(&i.pc);
+    for target in targets {
         case.put(">");
         case.put(class_name(world, target.class));
     }
 }
 
 /// Each method with its instructions, in the order of the program.
-fn put_plan(case: &mut Case<'_>, world: &World, program: &Program) {
+fn put_plan(case: &mut Case<'_>, world: &World, program: &Program<'_>) {
     for reached in program.methods() {
         case.part("; ");
         put_method(case, world, reached.method);
-        for planned in reached.instructions.as_slice() {
-            put_instruction(case, world, planned);
+        let instructions = reached.body.instructions();
+        for (i, targets) in instructions.iter().zip(reached.targets.as_slice()) {
+            put_instruction(case, world, i, targets.as_slice());
         }
     }
 }
 
 /// The numbers of the methods, callees first.
-fn put_order(case: &mut Case<'_>, program: &Program) {
+fn put_order(case: &mut Case<'_>, program: &Program<'_>) {
     for number in program.callees_first() {
         case.show_word(number);
     }
 }
 
 /// The methods in their order, each with its cost.
-fn put_all(case: &mut Case<'_>, world: &World, program: &Program, costs: &Costs) {
+fn put_all(case: &mut Case<'_>, world: &World, program: &Program<'_>, costs: &Costs) {
     for (reached, cost) in program.methods().iter().zip(costs.as_slice()) {
         case.part(", ");
         put_method(case, world, reached.method);
@@ -83,7 +83,7 @@ fn put_cost(case: &mut Case<'_>, costs: &Costs, number: usize) {
 }
 
 /// The answer to a question about costs: that of the first method, those of the last and of the one behind it, or all.
-fn put_costs(case: &mut Case<'_>, world: &World, program: &Program, costs: &Costs, what: &str) {
+fn put_costs(case: &mut Case<'_>, world: &World, program: &Program<'_>, costs: &Costs, what: &str) {
     let count = costs.as_slice().len();
     match what {
         "cost" => put_cost(case, costs, 0),
@@ -95,9 +95,7 @@ fn put_costs(case: &mut Case<'_>, world: &World, program: &Program, costs: &Cost
     }
 }
 
-fn priced(case: &mut Case<'_>, world: &World, program: &Program, what: &str)
-    requires { IsEachOnce program.now }
-{
+fn priced(case: &mut Case<'_>, world: &World, program: &Program<'_>, what: &str) {
     match costs(case.alloc(), program, &CostModel::counting()) {
         Ok(costs) => put_costs(case, world, program, &costs, what),
         Err(CostFault::TooGreat) => case.put("too great"),
@@ -107,7 +105,6 @@ fn priced(case: &mut Case<'_>, world: &World, program: &Program, what: &str)
 
 /// The answer to a question about the method.
 fn told(case: &mut Case<'_>, world: &World, target: &Target, what: &str) {
-    flows_are_programs();
     let program = match flow(case.alloc(), world, target) {
         Ok(program) => program,
         Err(fault) => {

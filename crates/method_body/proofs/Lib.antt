@@ -1,1 +1,1 @@
-mod Extents
+pub mod Extents

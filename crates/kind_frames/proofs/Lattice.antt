@@ -17,10 +17,10 @@ use Rattle.kind_frames.proofs.Pointwise.{Each, each_is, is_each, each_itself, ea
 frame_same : (a b : KindFrame) → a.height ≡ b.height → a.slots ≡ b.slots → a ≡ b
 frame_same a b e f = ap (λ h. record { height = h; slots = a.slots }) e ∙ ap (λ s. record { height = b.height; slots = s }) f
 
-frame_of : (a b : KindFrame) → a.height ≡ b.height → Each a.slots b.slots → frame_below a b ≡ true
+pub frame_of : (a b : KindFrame) → a.height ≡ b.height → Each a.slots b.slots → frame_below a b ≡ true
 frame_of a b e each = and_from (int_eq a.height b.height) (all_below a.slots b.slots) ((signed_Decides a.height b.height).1 e) (is_each each)
 
-below_mixed : (a : KindFact) → fact_below a facts.Mixed ≡ true
+pub below_mixed : (a : KindFact) → fact_below a facts.Mixed ≡ true
 below_mixed facts.Unreached = refl
 below_mixed (facts.Known a) = refl
 below_mixed facts.Mixed = refl
@@ -39,7 +39,7 @@ module _ (locals most : ℕ) where
   one_length : (a b : KindFrame) → IsFactOf locals most (facts.Known a) → IsFactOf locals most (facts.Known b) → a.height ≡ b.height → length a.slots ≡ length b.slots
   one_length a b p q e = p.0 ∙ ap (λ z. locals + words_in z) e ∙ sym q.0
 
-  frame_is :
+  pub frame_is :
       (a b : KindFrame) → IsFactOf locals most (facts.Known a) → IsFactOf locals most (facts.Known b) → frame_below a b ≡ true
       → (a.height ≡ b.height) × Each a.slots b.slots
   frame_is a b p q h =

@@ -1,0 +1,4 @@
+pub mod Flow
+pub mod Lawful
+pub mod Disagreeing
+pub mod Arriving

@@ -1,0 +1,4 @@
+pub mod Places
+pub mod Heights
+pub mod Changes
+pub mod Orders

@@ -1,0 +1,5 @@
+pub mod Types
+pub mod Effects
+pub mod Frames
+pub mod Entry
+pub mod Laws

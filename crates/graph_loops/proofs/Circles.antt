@@ -149,7 +149,7 @@ edge_on g P a h rest c all d =
     edge_to g P a h a rest c all (⊎_elim (λ (e : a ≡ h). inr (sym e)) (λ (f : Contains rest h). inl f) (Contains-cons_cases a rest h d))
 
 module _ (g : List (List ℕ)) (root h : ℕ) where
-  inside_before : (x y : ℕ) → HasEdge g x y → LiesOnFirstPath g root h x → IsInLoop g root h y → (x ≡ h) ⊎ (x ≢ h) → IsInLoop g root h x
+  pub inside_before : (x y : ℕ) → HasEdge g x y → LiesOnFirstPath g root h x → IsInLoop g root h y → (x ≡ h) ⊎ (x ≢ h) → IsInLoop g root h x
   inside_before x y edge on i (inl e) = inl e
   inside_before x y edge on (inl e) (inr n) =
       inr (loops_back_source g root h x (subst (HasEdge g x) e edge) (on, n))

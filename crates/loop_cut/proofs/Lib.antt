@@ -1,0 +1,9 @@
+mod Lists
+mod Standing
+mod Ways
+mod Exits
+mod Changes
+mod Arriving
+mod Joining
+mod Whole
+mod Walking

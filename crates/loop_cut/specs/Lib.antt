@@ -1,0 +1,6 @@
+pub mod BlockGraph
+pub mod Regions
+pub mod Effects
+pub mod CodeLoops
+pub mod Laws
+pub mod inside

@@ -135,6 +135,8 @@ unfolds_by : (relation : Relation) (plan : Plan) (p : PlansFor relation plan) �
 unfolds_by relation plan p = record {
   graph = p.graph.1;
   covers_are = p.graph.2;
+  ranks = plan.covers.ranks;
+  ranked = p.graph.3;
   unfolding_is = subst (λ (ways : List (List (List Item))). IsUnfolding ways plan.covers.covers (unfolded_of plan)) p.ways (unfolding_is plan.ways plan.covers.covers plan.covers.ranks p.planned);
 }
 
@@ -180,7 +182,7 @@ pub plans_by : (relation : Relation) (plan : Plan) (ways : List (List (List Item
 plans_by relation plan ways g e f s graph are ranked = record {
   ways = f;
   planned = subst (λ (ws : List (List (List Item))). IsPlan ws plan.covers.covers plan.covers.ranks) e (planned_by ways g plan.covers.covers plan.covers.ranks graph are ranked (ways_held relation ways (e ∙ f) s));
-  graph = (g, subst (λ (ws : List (List (List Item))). IsCallGraph ws g) (e ∙ f) graph, are);
+  graph = (g, subst (λ (ws : List (List (List Item))). IsCallGraph ws g) (e ∙ f) graph, are, ranked);
 }
 
 pub fails_free : (relation : Relation) (plan : Plan) (target : ℕ) (e : UnfoldFault) → PlansFor relation plan

@@ -7,7 +7,7 @@ use Rattle.relations.specs.declared.direct.Called.{Called}
 use Rattle.relations.specs.declared.direct.DirectNode.{DirectNode}
 use Rattle.relations.specs.Relation.{Relation, sizes_of}
 use Rattle.graph_core.specs.Graphs.{HasEdge, IsRising}
-use Rattle.graph_covers.specs.Covers.{AreCovers}
+use Rattle.graph_covers.specs.Covers.{AreCovers, AreRanks}
 use Rattle.graph_covers.specs.NoCovers.{AvoidedBy}
 use Rattle.graph_order.specs.CalleesFirst.{IsCalleeFirst}
 use Rattle.base_relations.specs.declared.fault.UnfoldFault.{UnfoldFault}
@@ -70,10 +70,12 @@ pub record AreBases (relation : Relation) (bases : List (Option (List (List Item
   pub order : (g : List (List ℕ)) × IsBaseGraph bases g × IsCalleeFirst g (map is_some bases) direct.order
 
 -- ---- the answer
--- the graph of calls, the covers of its components, and what comes of steps by them
+-- the graph of calls, the covers of its components, and what comes of steps by them; by ranks, replacing calls ends
 pub record Unfolds (relation : Relation) (g : List (List ℕ)) (covers : List ℕ) (unfolded : List Step → List Trace) : Type 0 where
   pub graph : IsCallGraph (node_ways relation) g
   pub covers_are : AreCovers g covers
+  pub ranks : List ℕ
+  pub ranked : AreRanks g covers ranks
   pub unfolding_is : IsUnfolding (node_ways relation) covers unfolded
 
 -- the rules of all base relations, or the first fault

@@ -38,15 +38,15 @@ set_grows [] z = refl
 set_grows (x ∷ xs) z = ap (λ ys. x ∷ ys) (set_grows xs z)
 
 -- ---- tests
-not_true : (b : Bool) → not b ≡ true → b ≡ false
+pub not_true : (b : Bool) → not b ≡ true → b ≡ false
 not_true true e = absurd (let f : ⊥ = cc in f)
 not_true false e = refl
 
-both_left : (a b : Bool) → (a && b) ≡ true → a ≡ true
+pub both_left : (a b : Bool) → (a && b) ≡ true → a ≡ true
 both_left true b e = refl
 both_left false b e = absurd (let f : ⊥ = cc in f)
 
-both_right : (a b : Bool) → (a && b) ≡ true → b ≡ true
+pub both_right : (a b : Bool) → (a && b) ≡ true → b ≡ true
 both_right true b e = e
 both_right false b e = absurd (let f : ⊥ = cc in f)
 
@@ -80,16 +80,16 @@ zero_equal : (c : ℤ) → c ≢ pos 0 → int_eq c (pos 0) ≡ false
 zero_equal c n = not_test (int_eq c (pos 0)) (λ e. (Decides-int_eq c (pos 0)).0 e) n
 
 -- ---- what is bound
-bound_more : (sizes : ℕ) (made : List ℕ) (v i : ℕ) → is_bound sizes made i ≡ true → is_bound sizes (v ∷ made) i ≡ true
+pub bound_more : (sizes : ℕ) (made : List ℕ) (v i : ℕ) → is_bound sizes made i ≡ true → is_bound sizes (v ∷ made) i ≡ true
 bound_more sizes made v i e = or_between (nat_lt i sizes) (list_any (nat_eq i) made) (nat_eq i v) e
 
-bound_cases : (sizes : ℕ) (made : List ℕ) (v i : ℕ) → is_bound sizes (v ∷ made) i ≡ true → (i ≡ v) ⊎ (is_bound sizes made i ≡ true)
+pub bound_cases : (sizes : ℕ) (made : List ℕ) (v i : ℕ) → is_bound sizes (v ∷ made) i ≡ true → (i ≡ v) ⊎ (is_bound sizes made i ≡ true)
 bound_cases sizes made v i e = elim (or_cases (nat_lt i sizes) (list_any (nat_eq i) made) (nat_eq i v) e) [ inl t ↦ inl (eqb-true i v t) | inr b ↦ inr b ]
 
-bound_apart : (sizes : ℕ) (made : List ℕ) (v i : ℕ) → is_bound sizes made v ≡ false → is_bound sizes made i ≡ true → i ≢ v
+pub bound_apart : (sizes : ℕ) (made : List ℕ) (v i : ℕ) → is_bound sizes made v ≡ false → is_bound sizes made i ≡ true → i ≢ v
 bound_apart sizes made v i free bound e = let f : true ≡ false = sym bound ∙ ap (is_bound sizes made) e ∙ free in let g : ⊥ = cc in g
 
-coefficient_bound : (sizes : ℕ) (made : List ℕ) (i : ℕ) (cs : List ℤ) (k : ℕ) → coefficients_bound sizes made i cs ≡ true → get_or cs k (pos 0) ≢ pos 0 → is_bound sizes made (i + k) ≡ true
+pub coefficient_bound : (sizes : ℕ) (made : List ℕ) (i : ℕ) (cs : List ℤ) (k : ℕ) → coefficients_bound sizes made i cs ≡ true → get_or cs k (pos 0) ≢ pos 0 → is_bound sizes made (i + k) ≡ true
 coefficient_bound sizes made i [] k e n = absurd (n refl)
 coefficient_bound sizes made i (c ∷ cs) zero e n =
     subst (λ j. is_bound sizes made j ≡ true) (let z : i ≡ i + 0 = omega arith in z)
@@ -203,10 +203,10 @@ module _ (nodes : List ℕ) (sizes : ℕ) where
       ))
 
 -- ---- at the sizes of a node
-bound_size : (sizes i : ℕ) → is_bound sizes [] i ≡ true → i < sizes
+pub bound_size : (sizes i : ℕ) → is_bound sizes [] i ≡ true → i < sizes
 bound_size sizes i e = ltb-true i sizes (or_false (nat_lt i sizes) e)
 
-size_bound : (sizes i : ℕ) → i < sizes → is_bound sizes [] i ≡ true
+pub size_bound : (sizes i : ℕ) → i < sizes → is_bound sizes [] i ≡ true
 size_bound sizes i low = or_first (nat_lt i sizes) false (lt-ltb i sizes low)
 
 pub way_flat : (P : Amounts) (nodes : List ℕ) (v : List ℤ) (way : List Item) (c : ℕ) → IsScoped nodes (length v) [] way → WayPasses P v way c → (zs : List ℤ) × ItemsPass P (v ++ zs) way c

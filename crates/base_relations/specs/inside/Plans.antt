@@ -32,7 +32,7 @@ AreEdgesTo IsCalled count g a = (x y : ℕ) → HasEdge g x y ↔ ((x < a) × (y
 pub record PlansFor (relation : Relation) (plan : Plan) : Type 0 where
   pub ways : plan.ways ≡ node_ways relation
   pub planned : IsPlanned plan
-  pub graph : (g : List (List ℕ)) × IsCallGraph (node_ways relation) g × AreCovers g plan.covers.covers
+  pub graph : (g : List (List ℕ)) × IsCallGraph (node_ways relation) g × AreCovers g plan.covers.covers × AreRanks g plan.covers.covers plan.covers.ranks
 
 -- no covers, or want of memory
 abbrev pub TellsNoPlan : Relation → UnfoldFault → Type 0

@@ -1,0 +1,12 @@
+pub mod Going
+pub mod Replacing
+pub mod Members
+pub mod Unfolded
+pub mod Sums
+pub mod MadeValues
+pub mod Frames
+pub mod Made
+pub mod Traces
+pub mod Given
+pub mod BaseRules
+pub mod Costs

@@ -1,12 +1,12 @@
 //! Bounds, their values and their texts. A bound is written with its parts in front: a number; `nat:2,0,1/3` with the
 //! coefficients, the constant and the divisor; `pow:2:1,0/1` and `geo:2:1,0/1` with the base in front of these; `sum:2`, `prod:2`
 //! and `max:2` with how many of the bounds in front are taken. A case is such a bound and sizes behind `at`, or the word
-//! `normal` and a bound.
+//! `normal` and a bound, or the word `read`, a text in angle brackets, and sizes behind `at`.
 
 use bound_forms::BoundFault;
 use bound_normal::normal;
 use bound_terms::{Base, Bound, Nat, value};
-use bound_text::print;
+use bound_text::{ReadFault, print, read};
 use case_texts::Case;
 use case_texts::texts::put_text;
 use number_cases::lin_of;
@@ -136,10 +136,24 @@ fn answer_normal(case: &mut Case<'_>, text: &str) {
     }
 }
 
+/// The value of the bound that the text is of, at the sizes, and its text again, or that it is the text of none.
+fn answer_read(case: &mut Case<'_>, text: &str) {
+    let (front, sizes) = case.halves(text, "> at");
+    let sizes = sizes_of(case, sizes);
+    match read(case.alloc(), front.as_bytes()) {
+        Ok(bound) => tell(case, &bound, &sizes),
+        Err(ReadFault::At { offset: _ }) => case.put("no normal form"),
+        Err(ReadFault::Memory) => case.put("no memory"),
+    }
+}
+
 pub fn answer(case: &mut Case<'_>) {
     let text = case.rest();
-    match text.split_once("normal ") {
-        Some((_, bound)) => answer_normal(case, bound),
-        None => answer_value(case, text),
+    if let Some((_, bound)) = text.split_once("normal ") {
+        answer_normal(case, bound);
+    } else if let Some((_, text)) = text.split_once("read <") {
+        answer_read(case, text);
+    } else {
+        answer_value(case, text);
     }
 }

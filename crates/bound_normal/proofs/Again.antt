@@ -280,7 +280,7 @@ scaled_back (more (Greatest us) ts) h = absurd h
 scaled_back (more (Power b n) ts) h = absurd h
 scaled_back (more (Geometric b n) ts) h = absurd h
 
-product_back : (t : Term) → IsProduct t → monomial_term (monomial_of t) ≡ t
+pub product_back : (t : Term) → IsProduct t → monomial_term (monomial_of t) ≡ t
 product_back (Number c) h = absurd h
 product_back (Floor n) h = absurd h
 product_back (Total us) h = absurd h

@@ -190,6 +190,9 @@ linear_is l m w =
 linear_written : (n : Floored) → IsWell n → All IsWritten (parts_from 0 n.expression.coefficients n.expression.constant)
 linear_written n h = parts_written 0 n.expression.coefficients n.expression.constant h.coefficients h.constant h.variables
 
+pub linear_without : (n : Floored) → IsWell n → Without 41 (linear_text n.expression)
+linear_without n h = sum_without (parts_from 0 n.expression.coefficients n.expression.constant) (linear_written n h)
+
 linear_reads : (n m : Floored) → IsWell n → IsWell m → linear_text n.expression ≡ linear_text m.expression → n.expression ≡ m.expression
 linear_reads n m h g e =
     let texts : (k : Floored) → IsWell k → AreParts (parts_from 0 k.expression.coefficients k.expression.constant) = λ k w. All-weaker IsWritten (λ p. IsPartText p.1) (λ p x. x.0) (parts_from 0 k.expression.coefficients k.expression.constant) (linear_written k w) in
@@ -218,13 +221,13 @@ no_close d = absurd (omega (arith, d))
 
 floored_reads_by : (b c : Bool) (n m : Floored) (r s : List ℕ) → (n.divisor == 1) ≡ b → (m.divisor == 1) ≡ c → IsWell n → IsWell m → floored_by b n ++ r ≡ floored_by c m ++ s → (n ≡ m) × (r ≡ s)
 floored_reads_by true true n m r s x y h g e =
-    let w = until 41 (linear_text n.expression) (linear_text m.expression) r s (sum_without (parts_from 0 n.expression.coefficients n.expression.constant) (linear_written n h)) (sum_without (parts_from 0 m.expression.coefficients m.expression.constant) (linear_written m g))
+    let w = until 41 (linear_text n.expression) (linear_text m.expression) r s (linear_without n h) (linear_without m g)
     (sym (whole_splits (linear_text n.expression) r) ∙ tails (tails (tails (tails e))) ∙ whole_splits (linear_text m.expression) s) in
     (floored_is n m (linear_reads n m h g w.0) (eqb-true n.divisor 1 x ∙ sym (eqb-true m.divisor 1 y)), w.1)
 floored_reads_by true false n m r s x y h g e = absurd (omega (arith, heads e))
 floored_reads_by false true n m r s x y h g e = absurd (omega (arith, heads e))
 floored_reads_by false false n m r s x y h g e =
-    let w = until 41 (linear_text n.expression) (linear_text m.expression) (47 ∷ (decimal n.divisor ++ 41 ∷ r)) (47 ∷ (decimal m.divisor ++ 41 ∷ s)) (sum_without (parts_from 0 n.expression.coefficients n.expression.constant) (linear_written n h)) (sum_without (parts_from 0 m.expression.coefficients m.expression.constant) (linear_written m g))
+    let w = until 41 (linear_text n.expression) (linear_text m.expression) (47 ∷ (decimal n.divisor ++ 41 ∷ r)) (47 ∷ (decimal m.divisor ++ 41 ∷ s)) (linear_without n h) (linear_without m g)
     (sym (divided_splits (linear_text n.expression) (decimal n.divisor) r) ∙ tails (tails (tails (tails (tails e)))) ∙ divided_splits (linear_text m.expression) (decimal m.divisor) s) in
     let d = number_reads n.divisor m.divisor (41 ∷ r) (41 ∷ s) h.divisor g.divisor no_close no_close (tails w.1) in
     (floored_is n m (linear_reads n m h g w.0) d.0, tails d.1)

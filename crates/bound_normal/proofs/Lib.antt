@@ -8,3 +8,5 @@ pub mod Floors
 pub mod Amounts
 pub mod Values
 pub mod Again
+pub mod Keeping
+pub mod Normalized

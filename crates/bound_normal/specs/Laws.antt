@@ -32,3 +32,7 @@ FormsKeepValues = (t : Term) → IsHeldTerm t → NeedsKeep t → (sizes : List 
 -- the form of a normal form is itself
 abbrev pub NormalFormsStay : Type 0
 NormalFormsStay = (t : Term) → IsNormal t → form_term (form t) ≡ t
+
+-- and all that it needs keeps the limits
+abbrev pub NormalFormsKeep : Type 0
+NormalFormsKeep = (t : Term) → IsNormal t → NeedsKeep t

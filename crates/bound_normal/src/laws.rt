@@ -1,4 +1,4 @@
-ghost use Rattle.bound_normal.specs.Laws.{ExpressionsAreRead, FormsAreNormal, FormsKeepValues, KeysTell, NormalFormsStay, TextsTell};
+ghost use Rattle.bound_normal.specs.Laws.{ExpressionsAreRead, FormsAreNormal, FormsKeepValues, KeysTell, NormalFormsKeep, NormalFormsStay, TextsTell};
 
 /// The form of what the machine holds is a normal form, where it keeps the limits.
 pub fn forms_are_normal()
@@ -24,4 +24,9 @@ pub fn forms_keep_values()
 /// The form of a normal form is itself.
 pub fn normal_forms_stay()
     ensures { NormalFormsStay }
+{}
+
+/// All that a normal form needs keeps the limits.
+pub fn normal_forms_keep()
+    ensures { NormalFormsKeep }
 {}

@@ -74,6 +74,7 @@ fn see_all(parts: &[Bound])
 
 /// The bound's normal form, which has the bound's value at all sizes. `Monomials` and `Coefficient` come where the form of the
 /// bound, or of a part of it beside which no factor is 0, passes the limit.
+#[tactic(auto, using(crate::proofs::Normalized::is_normal, crate::proofs::Normalized::keeps_value))]
 pub fn normal(alloc: Global, bound: Bound) -> Result<Bound, BoundFault>
     ensures form { IsNormalized result (term_of bound) }
     ensures normal { IfOk result (λ b. IsNormal (term_of b)) }

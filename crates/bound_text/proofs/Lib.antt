@@ -1,0 +1,4 @@
+pub mod Numbers
+pub mod Expressing
+pub mod Standing
+pub mod Answering

@@ -1,0 +1,5 @@
+pub mod Runs
+pub mod Expressions
+pub mod Sums
+pub mod Readers
+pub mod Checks

@@ -1,0 +1,14 @@
+pub mod Chosen
+pub mod Basics
+pub mod Clashes
+pub mod Rulers
+pub mod Returns
+pub mod Twice
+pub mod Unique
+pub mod Transfers
+pub mod Ends
+pub mod Totals
+pub mod Pivoting
+pub mod Starting
+pub mod Points
+pub mod Contradictions

@@ -13,7 +13,8 @@ pub fn answer(subject: &str, case: &mut Case<'_>) {
         || relation_cases::answer(subject, case)
         || bound_cases::answer(subject, case)
         || graph_cases::answer(subject, case)
-        || flow_cases::answer(subject, case);
+        || flow_cases::answer(subject, case)
+        || kind_cases::answer(subject, case);
     if !is_known {
         case.malformed("no such subject");
     }

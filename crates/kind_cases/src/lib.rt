@@ -1,0 +1,19 @@
+//! What cases on the kinds of a method's frames are answered.
+#![tactic(auto)]
+
+mod joins;
+mod methods;
+mod shown;
+mod soundness;
+
+use case_texts::Case;
+
+/// Answers the case, and tells whether the subject is one of these.
+pub fn answer(subject: &str, case: &mut Case<'_>) -> bool {
+    match subject {
+        "joined_kinds" => joins::answer(case),
+        "kinds" => methods::answer(case),
+        _ => return false,
+    }
+    true
+}

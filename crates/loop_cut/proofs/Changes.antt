@@ -12,7 +12,8 @@ use Rattle.code_blocks.specs.Laws.{IsInside}
 use Rattle.code_blocks.specs.Successors.{rising}
 use Rattle.code_blocks.proofs.Risings.{rising_has, rising_from}
 use Rattle.method_body.specs.Bodies.{MethodBody}
-use Rattle.loop_cut.specs.Effects.{stored_by, popped}
+use Rattle.kind_effects.specs.Effects.{pops}
+use Rattle.loop_cut.specs.Effects.{stored_by}
 use Rattle.loop_cut.specs.CodeLoops.{IsChanged, IsHeight, IsLeast}
 use Rattle.loop_cut.specs.inside.Gathered.{AreFloors, AreNumbers, IsLeastOf, or_zero, part_of, part_at, stored_at}
 use Rattle.loop_cut.proofs.Lists.{part_from, part_has, got, got_within, at_place}
@@ -94,19 +95,19 @@ module _ (body : MethodBody) (numbers : List ℕ) (numbered : AreNumbers body.bl
     pub some_height : (c : Block) (i : Instruction) → Contains body.blocks c → Contains places c.pc → c.first ≤ c.last → slice_get body.instructions c.first ≡ Some i
         → (n : ℕ) × IsHeight body heights places n
     some_height c i there held ordered at =
-        (slice_index heights c.first - popped body.class.pool (action_of i.instr), (c.first, i, record { block = c; known = there; held = held; inside = (omega arith, ordered); there = at }, refl))
+        (slice_index heights c.first - pops body.class.pool (action_of i.instr), (c.first, i, record { block = c; known = there; held = held; inside = (omega arith, ordered); there = at }, refl))
 
 -- one floor more
 pub floors_next : (pool : List (Option Constant)) (is : List Instruction) (heights floors : List ℕ) (n v : ℕ) (at : Instruction) → n < length is → at ≡ get_or is n at → length floors ≡ n
-    → v ≡ slice_index heights n - popped pool (action_of at.instr)
-    → ((k : ℕ) (i : Instruction) → k < n → slice_get is k ≡ Some i → slice_index floors k ≡ slice_index heights k - popped pool (action_of i.instr))
-    → (k : ℕ) (i : Instruction) → k < n + 1 → slice_get is k ≡ Some i → slice_index (floors ++ v ∷ []) k ≡ slice_index heights k - popped pool (action_of i.instr)
+    → v ≡ slice_index heights n - pops pool (action_of at.instr)
+    → ((k : ℕ) (i : Instruction) → k < n → slice_get is k ≡ Some i → slice_index floors k ≡ slice_index heights k - pops pool (action_of i.instr))
+    → (k : ℕ) (i : Instruction) → k < n + 1 → slice_get is k ≡ Some i → slice_index (floors ++ v ∷ []) k ≡ slice_index heights k - pops pool (action_of i.instr)
 floors_next pool is heights floors n v at lt e count last before k i le got_i = elim (cases_lt k n) [
   | inl lower ↦ get_or_append_left floors (v ∷ []) 0 k (omega arith) ∙ before k i lower got_i
   | inr higher ↦
       let same : k ≡ n = omega arith in
       let is_at : at ≡ i = e ∙ ap (λ (m : ℕ). get_or is m at) (sym same) ∙ at_place is k i got_i at in
       let end : length floors ≡ k = omega arith in
-      get_or_push floors v 0 k end ∙ last ∙ ap (λ (m : ℕ). slice_index heights m - popped pool (action_of at.instr)) (sym same)
-      ∙ ap (λ (j : Instruction). slice_index heights k - popped pool (action_of j.instr)) is_at
+      get_or_push floors v 0 k end ∙ last ∙ ap (λ (m : ℕ). slice_index heights m - pops pool (action_of at.instr)) (sym same)
+      ∙ ap (λ (j : Instruction). slice_index heights k - pops pool (action_of j.instr)) is_at
 ]

@@ -17,7 +17,8 @@ use Rattle.loop_cut.specs.declared.found.CutFault.{CutFault}
 use Rattle.loop_cut.specs.declared.found.CutFault.TheVariants as faults
 use Rattle.loop_cut.specs.BlockGraph.{IsBlockGraph}
 use Rattle.loop_cut.specs.Regions.{IsExit, IsHead}
-use Rattle.loop_cut.specs.Effects.{stored_by, popped}
+use Rattle.kind_effects.specs.Effects.{pops}
+use Rattle.loop_cut.specs.Effects.{stored_by}
 
 abbrev pub fault_of : NestFault → CutFault
 fault_of (nests.TwoEntries a b) = faults.Irreducible a b
@@ -41,7 +42,7 @@ IsChanged body places n =
 abbrev pub IsHeight : MethodBody → List ℕ → List ℕ → ℕ → Type 0
 IsHeight body heights places n =
     (k : ℕ) × (i : Instruction) × StandsIn body places k i
-    × (n ≡ slice_index heights k - popped body.class.pool (action_of i.instr))
+    × (n ≡ slice_index heights k - pops body.class.pool (action_of i.instr))
 
 abbrev pub IsLeast : (ℕ → Type 0) → ℕ → Type 0
 IsLeast P n = P n × ((m : ℕ) → P m → n ≤ m)

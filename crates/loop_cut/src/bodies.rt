@@ -5,9 +5,10 @@ ghost use Rattle.code_blocks.specs.declared.instruction.Block.{Block as BlockVal
 ghost use Rattle.code_blocks.specs.Successors.{rising};
 ghost use Rattle.loop_cut.specs.inside.Gathered.{AreFloors, AreNumbers, IsLeastOf, part_at, stored_at, stored_in};
 
-use crate::effects::{popped, stored_by};
+use crate::effects::stored_by;
 use class_pool::{Pool, Sequence};
 use code_blocks::{Block, Instruction, rising};
+use kind_effects::pops;
 use op_table::action_of;
 use std::alloc::{AllocError, Global};
 
@@ -38,7 +39,7 @@ pub(crate) fn floors(
 {
     let mut floors = Vec::new(alloc);
     for k in 0..instructions.len() {
-        let popped = popped(pool, action_of(&instructions[k].instr));
+        let popped = pops(pool, action_of(&instructions[k].instr));
         floors.push((heights[k] as usize).saturating_sub(popped) as u32)?;
     }
     Ok(floors)

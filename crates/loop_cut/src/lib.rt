@@ -12,7 +12,7 @@ mod leaving;
 mod point;
 
 pub use cutting::cut;
-pub use effects::{popped, stored_by};
+pub use effects::stored_by;
 pub use found::{CodeLoop, CutFault, Loops};
 pub use laws::{loops_are_entered_at_entries, loops_are_left_to_exits, walks_repeat_nothing};
 pub use point::Point;

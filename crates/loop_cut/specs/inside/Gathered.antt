@@ -9,7 +9,8 @@ use Rattle.code_blocks.specs.declared.instruction.Block.{Block}
 use Rattle.method_body.specs.Bodies.{MethodBody}
 use Rattle.loop_cut.specs.declared.found.CodeLoop.{CodeLoop}
 use Rattle.loop_cut.specs.Regions.{IsExit}
-use Rattle.loop_cut.specs.Effects.{stored_by, popped}
+use Rattle.kind_effects.specs.Effects.{pops}
+use Rattle.loop_cut.specs.Effects.{stored_by}
 
 -- ---- exits
 
@@ -47,7 +48,7 @@ stored_at is blocks numbers pc = stored_in (part_at is blocks numbers pc)
 -- the height inside each instruction, after what it pops
 pub record AreFloors (pool : List (Option Constant)) (is : List Instruction) (heights floors : List ℕ) : Type 0 where
   pub count : length floors ≡ length is
-  pub each : (k : ℕ) (i : Instruction) → slice_get is k ≡ Some i → slice_index floors k ≡ slice_index heights k - popped pool (action_of i.instr)
+  pub each : (k : ℕ) (i : Instruction) → slice_get is k ≡ Some i → slice_index floors k ≡ slice_index heights k - pops pool (action_of i.instr)
 
 -- the least number of the list, or none where it is empty
 abbrev pub IsLeastOf : List ℕ → Option ℕ → Type 0

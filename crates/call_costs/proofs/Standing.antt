@@ -48,7 +48,8 @@ use Rattle.code_flow.specs.Program.{IsProgram}
 use Rattle.call_costs.proofs.Placing.{path_start, path_next}
 use Rattle.call_costs.proofs.Words.{IsMade, IsKnown, AreKnown, pushed_known, popped_known, taken_known, first_known, narrowed_known, computed_known}
 use Rattle.call_costs.proofs.Heaps.{Grows, grows_self, grows_on, known_later, grows_new, new_known}
-use Rattle.call_costs.proofs.Targets.{dispatched_target, call_links, shows_none}
+use Rattle.steps.proofs.Dispatching.{dispatched_target}
+use Rattle.call_costs.proofs.Targets.{receiver_made, call_runs, shows_none}
 use Rattle.call_costs.proofs.Activations.{IsListed, IsStanding, code_whole, current_of, current_calls}
 
 -- ---- a step that goes on in its frame
@@ -304,8 +305,8 @@ module _ {w : World} {first : MemberId} {program : List Plan} (weights : ℕ →
       let c = call_by s makes in
       let called = c.called in
       let words = (taken_known w a.heap (receiver_words c.call + words_of_all (parameters_of (method_of w called.taken.meant.method).desc)) a.frame.stack called.taken.handed called.taken.takes s.stack).0 in
-      let links = call_links w a.frame.method.class s.code.bytes (record { pc = a.frame.pc; instr = p.instr }) c.call c.index p.targets called.taken.meant p.verdict c.is called.taken.links in
-      dispatched_target w a.heap called.taken.meant p.targets called.dispatches well words links.0 links.1
+      let runs = call_runs w a.frame.method.class s.code.bytes (record { pc = a.frame.pc; instr = p.instr }) c.call c.index p.targets called.taken.meant p.verdict c.is called.taken.means in
+      dispatched_target w a.heap a.frame.method.class called.taken.meant p.targets called.dispatches well (receiver_made w a.heap called.taken.handed.words words) runs
 
   started_stands : {a b : Here} {k : ℕ} → IsStanding w program a → Starts w weights a k b → IsStanding w program b
   started_stands {a = a} {b = b} s st =

@@ -1,4 +1,4 @@
--- What is linked is there.
+-- What is meant and looked up is there, and the methods that a call can run.
 use Rattle.std.proofs.Common.{◌≡◌, ℕ, ◌<◌, Bool, true, false, List, length, Option, Some, None, Result, Ok, Err, refl, sym, ap, ◌∙◌, subst}
 use Rattle.std.specs.Prelude.{if◌then◌else◌}
 use Rattle.class_reader.specs.declared.class.Method.{Method}
@@ -18,7 +18,7 @@ use Rattle.world.proofs.There.{method_from_there}
 use Rattle.linking.specs.declared.calls.Meant.{Meant}
 use Rattle.linking.specs.Told.{told, then_by, unless}
 use Rattle.linking.specs.References.{Reference, against_call}
-use Rattle.linking.specs.Calls.{is_same, is_static_call, fits, of_class, meant_in, meant, from_superclass, is_super_call, found, looked_up, linked_from, linked, linked_to, linked_by, run_by, called, called_by}
+use Rattle.linking.specs.Calls.{is_same, is_static_call, fits, of_class, meant_in, meant, from_superclass, is_super_call, found, looked_up, linked_from, linked, meant_to, meant_by, run_by, called, called_by}
 
 -- ---- answers that are handed on
 
@@ -91,37 +91,54 @@ looked_there w current call m x there e =
     let before = behind (fits w call) (found w current call m) x e in
     subst (λ (y : MemberId). HasMethod w y) (fits_same w call before.0 x before.2) (found_there w current call m before.0 there before.1)
 
--- what is linked is a class and a method of the world
-pub linked_there : (w : World) (current : ℕ) (call : Call) (class name desc : List ℕ) (m : Meant) → linked w current call class name desc ≡ Ok m → IsThere w m
-unfolding linked
-linked_there w current call class name desc m e =
-    let first = behind (linked_from w current call) (meant w call class name desc) m e in
-    let there : IsThere w first.0 = meant_there w call class name desc first.0 first.1 in
-    let last = behind (of_class first.0.class) (looked_up w current call first.0) m first.2 in
-    let this : Meant = record { class = first.0.class; method = last.0 } in
-    let same : this ≡ m = cc in
-    subst (λ (x : Meant). IsThere w x) same (there.0, looked_there w current call first.0 last.0 there.1 last.1)
+-- a call that isn't invokespecial looks up the method that it means
+pub looks_up_meant : (w : World) (current : ℕ) (call : Call) (m : Meant) (t : MemberId) → ¬ (call ≡ Special) → looked_up w current call m ≡ Ok t → m.method ≡ t
+unfolding looked_up
+looks_up_meant w current Special m t other e = absurd (other refl)
+looks_up_meant w current Static m t other e = fits_same w Static m.method t e
+looks_up_meant w current Virtual m t other e = fits_same w Virtual m.method t e
+looks_up_meant w current Interface m t other e = fits_same w Interface m.method t e
 
--- ---- a linked call and the methods that it can run
+-- ---- what a call means and the methods that it can run
 
 passed : {A : Type 0} (r : Result A Construct) (o : Option Construct) (a : A) → unless r o ≡ Ok a → r ≡ Ok a
 passed r None a e = e
 passed r (Some construct) a e = absurd cc
 
-run_named : (w : World) (current : ℕ) (call : Call) (class name desc : List ℕ) (m : Meant) (ts : List MemberId)
-    → linked w current call class name desc ≡ Ok m → called w current call class name desc ≡ Ok ts → IsThere w m × (run_by w call m ≡ Ok ts)
-unfolding called
-run_named w current call class name desc m ts links calls =
-    (linked_there w current call class name desc m links, sym (ap (then_by (run_by w call)) links) ∙ calls)
+-- what a call means is there, as is what it looks up, which runs these methods
+pub record Runs (w : World) (current : ℕ) (call : Call) (m : Meant) (ts : List MemberId) : Type 0 where
+  pub there : IsThere w m
+  pub target : MemberId
+  pub looks : looked_up w current call m ≡ Ok target
+  pub target_there : HasMethod w target
+  pub runs : run_by w call (record { class = m.class; method = target }) ≡ Ok ts
 
-run_to : (w : World) (current : ℕ) (call : Call) (reference : Option Reference) (m : Meant) (ts : List MemberId)
-    → linked_to w current call reference ≡ Ok m → called_by w current call reference ≡ Ok ts → IsThere w m × (run_by w call m ≡ Ok ts)
-run_to w current call None m ts links calls = absurd cc
-run_to w current call (Some (tag, class, name, desc)) m ts links calls = run_named w current call class name desc m ts links calls
+runs_named : (w : World) (current : ℕ) (call : Call) (class name desc : List ℕ) (m : Meant) (ts : List MemberId)
+    → meant w call class name desc ≡ Ok m → called w current call class name desc ≡ Ok ts → Runs w current call m ts
+unfolding called linked
+runs_named w current call class name desc m ts means calls =
+    let there : IsThere w m = meant_there w call class name desc m means in
+    let last = behind (run_by w call) (then_by (linked_from w current call) (meant w call class name desc)) ts calls in
+    let from : linked_from w current call m ≡ Ok last.0 = sym (ap (then_by (linked_from w current call)) means) ∙ last.1 in
+    let found = behind (of_class m.class) (looked_up w current call m) last.0 from in
+    let this : Meant = record { class = m.class; method = found.0 } in
+    let same : this ≡ last.0 = cc in
+    record {
+      there = there;
+      target = found.0;
+      looks = found.1;
+      target_there = looked_there w current call m found.0 there.1 found.1;
+      runs = ap (run_by w call) same ∙ last.2;
+    }
 
--- what a call is linked to is there, and runs one of the methods that the call can run
-pub linked_runs : (w : World) (current : ℕ) (call : Call) (reference : Option Reference) (m : Meant) (ts : List MemberId)
-    → linked_by w current call reference ≡ Ok m → called_by w current call reference ≡ Ok ts → IsThere w m × (run_by w call m ≡ Ok ts)
-unfolding linked_by
-linked_runs w current call reference m ts links calls =
-    run_to w current call reference m ts (passed (linked_to w current call reference) (against_call reference) m links) calls
+runs_to : (w : World) (current : ℕ) (call : Call) (reference : Option Reference) (m : Meant) (ts : List MemberId)
+    → meant_to w call reference ≡ Ok m → called_by w current call reference ≡ Ok ts → Runs w current call m ts
+runs_to w current call None m ts means calls = absurd cc
+runs_to w current call (Some (tag, class, name, desc)) m ts means calls = runs_named w current call class name desc m ts means calls
+
+-- what a call means is there, and what it looks up runs one of the methods that the call can run
+pub meant_runs : (w : World) (current : ℕ) (call : Call) (reference : Option Reference) (m : Meant) (ts : List MemberId)
+    → meant_by w call reference ≡ Ok m → called_by w current call reference ≡ Ok ts → Runs w current call m ts
+unfolding meant_by
+meant_runs w current call reference m ts means calls =
+    runs_to w current call reference m ts (passed (meant_to w call reference) (against_call reference) m means) calls

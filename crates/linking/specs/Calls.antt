@@ -43,6 +43,14 @@ meant_in w call name desc (Some c) = then_by (of_class c) (then_by (fits w call)
 unfoldable pub meant : World → Call → List ℕ → List ℕ → List ℕ → Result Meant Construct
 meant w call class name desc = meant_in w call name desc (number_of w class)
 
+abbrev pub meant_to : World → Call → Option Reference → Result Meant Construct
+meant_to w call None = Err constructs.Constant
+meant_to w call (Some (tag, class, name, desc)) = meant w call class name desc
+
+-- the same by a member reference, where nothing stands against it
+unfoldable pub meant_by : World → Call → Option Reference → Result Meant Construct
+meant_by w call reference = unless (meant_to w call reference) (against_call reference)
+
 -- ---- the second look-up (JVMS 6.5.invokespecial)
 
 -- the name of constructors (JVMS 2.9.1)
@@ -81,14 +89,6 @@ linked_from w current call m = then_by (of_class m.class) (looked_up w current c
 -- the class that a call in the current class names, and the method that is looked up
 unfoldable pub linked : World → ℕ → Call → List ℕ → List ℕ → List ℕ → Result Meant Construct
 linked w current call class name desc = then_by (linked_from w current call) (meant w call class name desc)
-
-abbrev pub linked_to : World → ℕ → Call → Option Reference → Result Meant Construct
-linked_to w current call None = Err constructs.Constant
-linked_to w current call (Some (tag, class, name, desc)) = linked w current call class name desc
-
--- the same by a member reference, where nothing stands against it
-unfoldable pub linked_by : World → ℕ → Call → Option Reference → Result Meant Construct
-linked_by w current call reference = unless (linked_to w current call reference) (against_call reference)
 
 -- ---- the methods that can run
 

@@ -7,7 +7,7 @@ ghost use Rattle.world.specs.Resolution.{resolved_method};
 ghost use Rattle.world.specs.Selection.{method_of};
 ghost use Rattle.world.specs.Tables.{HasMethod};
 ghost use Rattle.linking.specs.Told.{Tells, told};
-ghost use Rattle.linking.specs.Calls.{called, called_by, fits, found, from_superclass, is_constructor, is_same, is_static_call, is_super_call, linked, linked_by, looked_up, meant};
+ghost use Rattle.linking.specs.Calls.{called, called_by, fits, found, from_superclass, is_constructor, is_same, is_static_call, is_super_call, linked, looked_up, meant, meant_by};
 
 use crate::fault::LinkFault;
 use crate::references::against_call;
@@ -161,9 +161,14 @@ fn found(
     }
 }
 
-// The method that a call in the current class looks up.
+/// The method that a call in the current class looks up, by what it means: for a call of a superclass's method by
+/// `invokespecial` the one that is found from the direct superclass on (JVMS 6.5.invokespecial), else the one that is meant.
+///
+/// # Errors
+///
+/// No such method, or not the only one, and one that is static where the call isn't, or the reverse.
 #[tactic(auto, unfolding(crate::specs::Calls::looked_up))]
-fn looked_up(
+pub fn looked_up(
     alloc: Global,
     world: &World,
     current: u32,
@@ -201,32 +206,30 @@ fn linked(
     })
 }
 
-/// The class that a call in the current class names by a member reference of its pool, and the method that is looked
-/// up: the one that the name means there, and for a call of a superclass's method by `invokespecial` the one that is
-/// found from the direct superclass on.
+/// The class that a call names by a member reference of its pool, and the method that the name and the descriptor mean
+/// there (JVMS 5.4.3.3).
 ///
 /// # Errors
 ///
 /// The first that stands against it: what `against_call` tells, a class or a method that isn't there or isn't the only
 /// one, and a method that is static where the call isn't, or the reverse.
-#[tactic(auto, unfolding(crate::specs::Calls::linked_by))]
-pub fn linked_by(
+#[tactic(auto, unfolding(crate::specs::Calls::meant_by))]
+pub fn meant_by(
     alloc: Global,
     world: &World,
-    current: u32,
     call: Call,
     pool: &Pool,
     index: u16,
 ) -> Result<Meant, LinkFault>
     ensures there { IfOk result (λ m. HasMethod world.now m.method) }
     ensures bound { IfOk result (λ m. m.class < length world.now) }
-    ensures exact { Tells result (linked_by world.now current call (member_at pool.now index)) }
+    ensures exact { Tells result (meant_by world.now call (member_at pool.now index)) }
 {
     if let Some(construct) = against_call(pool, index) {
         return Err(LinkFault::Against(construct));
     }
     match pool.member(index) {
-        Some((_, class, name, desc)) => linked(alloc, world, current, call, class, name, desc),
+        Some((_, class, name, desc)) => named(alloc, world, call, class, name, desc),
         None => Err(LinkFault::Against(Construct::Constant)),
     }
 }
@@ -256,7 +259,7 @@ fn called(
 /// # Errors
 ///
 /// The first that stands against it, but for what `against_call` tells of a member reference, which isn't looked at here:
-/// as of `linked_by`, then what receivers' classes meet, an abstract method that isn't selected by a receiver, and a native
+/// as of `meant_by`, then of `looked_up`, then what receivers' classes meet, an abstract method that isn't selected by a receiver, and a native
 /// method.
 pub fn called_by(
     alloc: Global,

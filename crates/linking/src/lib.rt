@@ -9,7 +9,7 @@ mod members;
 mod references;
 mod targets;
 
-pub use calls::{Meant, called_by, linked_by};
+pub use calls::{Meant, called_by, looked_up, meant_by};
 pub use fault::LinkFault;
 pub use laws::targets_are_listed;
 pub use members::{field_by, known, made_by};

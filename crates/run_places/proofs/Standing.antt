@@ -22,9 +22,9 @@ use Rattle.world.specs.declared.member.MemberId.{MemberId}
 use Rattle.class_hierarchy.specs.World.{World, class_at}
 use Rattle.class_hierarchy.specs.Building.{IsWellBuilt}
 use Rattle.world.specs.Selection.{method_of}
-use Rattle.linking.specs.Calls.{linked_by}
+use Rattle.linking.specs.Calls.{meant_by}
 use Rattle.linking.specs.Methods.{code_at}
-use Rattle.linking.proofs.Linked.{linked_runs}
+use Rattle.linking.proofs.Linked.{meant_runs}
 use Rattle.code_blocks.specs.declared.instruction.Placed.{Placed}
 use Rattle.code_blocks.specs.Placing.{placed, placed_from, broken_from}
 use Rattle.code_blocks.specs.Successors.{goes_behind, successors_of, instruction_of, instructions_of}
@@ -46,6 +46,7 @@ use Rattle.steps.specs.Calling.{receiver_words, waiting, new_frame}
 use Rattle.steps.specs.Step.{Step, outcome_of, weight_of, with_result, resumed, resumed_by, return_to, leave, settle, step_from, step_of}
 use Rattle.steps.specs.Row as rows
 use Rattle.steps.specs.Row.{Row, RowAt, Called}
+use Rattle.steps.proofs.Dispatching.{dispatched_target}
 use Rattle.steps.proofs.Rows.{outcome_is_row}
 use Rattle.entries.specs.Entry.{words_of_values, IsEntry}
 use Rattle.machine.specs.Run.{IsRun, Continues}
@@ -56,7 +57,7 @@ use Rattle.well_formed.proofs.Steps.{step_kept}
 use Rattle.well_formed.proofs.Entered.{entry_well_formed}
 use Rattle.run_places.specs.Standing.{IsClosed, Stands, Waits, AllStand, HasInstructions, place_of}
 use Rattle.run_places.proofs.Leading.{LeadsOn, leads_on, behind_leads}
-use Rattle.run_places.proofs.Receivers.{dispatched_target}
+use Rattle.run_places.proofs.Receivers.{receiver_made}
 
 -- ---- the beginning of code
 
@@ -152,14 +153,15 @@ module _ {w : World} {methods : List MemberId} (well : IsWellBuilt w) (files : I
       let read : IsRead w a.frame s = standing_read w a.frame s stands in
       let at : IsAt a.frame s is.code = stands_at a.frame s is stands in
       let within = all.calls a.frame.method s.code (place_of a.frame s) is.listed read.of_method at.there call i acts in
-      let links : linked_by w a.frame.method.class call (member_at (class_at w a.frame.method.class).pool i) ≡ Ok called.taken.meant =
-      subst (λ (c : ClassRecord). linked_by w a.frame.method.class call (member_at c.pool i) ≡ Ok called.taken.meant) read.of_class called.taken.links
+      let means : meant_by w call (member_at (class_at w a.frame.method.class).pool i) ≡ Ok called.taken.meant =
+      subst (λ (c : ClassRecord). meant_by w call (member_at c.pool i) ≡ Ok called.taken.meant) read.of_class called.taken.means
       in
-      let runs = linked_runs w a.frame.method.class call (member_at (class_at w a.frame.method.class).pool i) called.taken.meant within.0 links within.1 in
+      let runs = meant_runs w a.frame.method.class call (member_at (class_at w a.frame.method.class).pool i) called.taken.meant within.0 means within.1 in
       let words = (taken_all (IsWord w a.heap) tt (receiver_words call + words_of_all (parameters_of (method_of w called.taken.meant.method).desc)) a.frame.stack called.taken.handed called.taken.takes
       (All-from_recursion (IsWord w a.heap) a.frame.stack formed.frame.stack)).0
       in
-      let listed : Contains methods called.target = within.2 called.target (dispatched_target w a.heap called.taken.meant within.0 called.dispatches well words runs.0 runs.1) in (
+      let listed : Contains methods called.target = within.2 called.target
+      (dispatched_target w a.heap a.frame.method.class called.taken.meant within.0 called.dispatches well (receiver_made w a.heap called.taken.handed.words words) runs) in (
         subst (λ (f : Frame). Waits w methods f) (sym called.waits) (caller_waits a called.taken.handed.rest s call i is stands acts),
         subst (λ (f : Frame). Stands w methods f) (sym called.enters) (first_stands called.target called.code called.taken.handed.words listed called.has_code called.begins),
       )

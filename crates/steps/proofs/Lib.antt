@@ -1,4 +1,5 @@
 pub mod Arguments
+pub mod Dispatching
 pub mod Rows
 pub mod Growing
 pub mod Steps

@@ -18,11 +18,10 @@ use Rattle.class_reader.specs.declared.class.Code.{Code}
 use Rattle.descriptors.specs.Pieces.{parameters_of, result_of}
 use Rattle.descriptors.specs.Texts.{words_of_all}
 use Rattle.world.specs.declared.member.MemberId.{MemberId}
-use Rattle.world.specs.declared.fault.ResolveFault.{ResolveFault}
 use Rattle.class_hierarchy.specs.World.{World, is_below}
 use Rattle.world.specs.Selection.{method_of, selected_by}
 use Rattle.linking.specs.declared.calls.Meant.{Meant}
-use Rattle.linking.specs.Calls.{linked_by}
+use Rattle.linking.specs.Calls.{meant_by}
 use Rattle.linking.specs.Members.{made_by}
 use Rattle.linking.specs.Methods.{code_at}
 use Rattle.frames.specs.declared.value.Value.{Value}
@@ -63,10 +62,11 @@ use Rattle.object_steps.specs.CastCases.{CastChange, CastThrows, IsCastCase}
 use Rattle.object_steps.proofs.ArrayLaws.{arrays_are_cases, array_cases_left, array_cases_thrown}
 use Rattle.object_steps.proofs.FieldLaws.{fields_are_cases, field_cases_left, field_cases_thrown}
 use Rattle.object_steps.proofs.CastLaws.{casts_are_cases, cast_cases_left, cast_cases_thrown}
-use Rattle.steps.specs.Calling.{Handed, is_outside, receiver_words, taken, are_words, waiting, new_frame, return_popped, return_value, throw_top, or_link, selects, target, has_locals, enter_code, enter_target, hand_over, call_linked, call}
+use Rattle.steps.specs.Calling.{Handed, is_outside, receiver_words, taken, are_words, waiting, new_frame, return_popped, return_value, throw_top, or_link, selects, target, has_locals, enter_code, enter_target, hand_over, call_meant, call}
 use Rattle.steps.specs.Row as rows
-use Rattle.steps.specs.Row.{Row, RowAt, HasRoom, IsStop, Taken, with_object}
+use Rattle.steps.specs.Row.{Row, RowAt, HasRoom, IsStop, Dispatched, Taken, with_object}
 use Rattle.steps.specs.Step.{acts_on, outcome_on, outcome_of}
+use Rattle.steps.proofs.Dispatching.{IsFound, found, dispatched_found, null_found}
 
 -- going on, where there is room
 room_row : (w : World) (s : Standing) (at : Here) (action : Action) (fit wraps : Bool) (now : Here)
@@ -182,81 +182,9 @@ throw_row w s at (Pad ∷ stack) is = rows.stops
 
 -- ---- calls
 
-ok_of : (r : Result MemberId ResolveFault) (m : MemberId) → result_ok r ≡ Some m → r ≡ Ok m
-ok_of (Ok n) m is = cc
-ok_of (Err e) m is = absurd (cc)
-
--- a call on null
-record IsNull (call : Call) (words : List Value) (what : Raised) : Type 0 where
-  null : what ≡ raised.NullPointer
-  instance : ¬ (call ≡ Static)
-  arguments : List Value
-  first : words ≡ Null ∷ arguments
-
--- what a call's method is found to be
-abbrev IsFound : World → Cells → ℕ → MemberId → Call → List Value → Result MemberId Failure → Type 0
-IsFound w heap class m call words (Ok t) = rows.Dispatched w heap class m call words t
-IsFound w heap class m call words (Err (failures.Stops k)) = Unit {0}
-IsFound w heap class m call words (Err (failures.Throws what)) = IsNull call words what
-
--- the class of the receiver selects
-selected_virtual : (w : World) (heap : Cells) (class r c : ℕ) (fields : List (MemberId × Value)) (m : MemberId) (words : List Value) (found : Option MemberId)
-    → cell_at heap r ≡ Some (Object c fields) → is_below w c class ≡ true → result_ok (selected_by w m c) ≡ found
-    → IsFound w heap class m Virtual (Ref r ∷ words) (or_link found)
-selected_virtual w heap class r c fields m words None at below is = tt
-selected_virtual w heap class r c fields m words (Some t) at below is = rows.virtual at below (ok_of (selected_by w m c) t is)
-
-selected_interface : (w : World) (heap : Cells) (class r c : ℕ) (fields : List (MemberId × Value)) (m : MemberId) (words : List Value) (found : Option MemberId)
-    → cell_at heap r ≡ Some (Object c fields) → is_below w c class ≡ true → result_ok (selected_by w m c) ≡ found
-    → IsFound w heap class m Interface (Ref r ∷ words) (or_link found)
-selected_interface w heap class r c fields m words None at below is = tt
-selected_interface w heap class r c fields m words (Some t) at below is = rows.interface at below (ok_of (selected_by w m c) t is)
-
-virtual_found : (w : World) (heap : Cells) (class r : ℕ) (m : MemberId) (words : List Value) (cell : Option Cell) (of_class : Bool)
-    → cell_at heap r ≡ cell → is_of_class w class cell ≡ of_class
-    → IsFound w heap class m Virtual (Ref r ∷ words) (if of_class then selects w Virtual m (class_of cell) else Err (failures.Stops stop_kinds.Receiver))
-virtual_found w heap class r m words cell false at of = tt
-virtual_found w heap class r m words None true at of = absurd (cc)
-virtual_found w heap class r m words (Some (Object c fields)) true at of = selected_virtual w heap class r c fields m words (result_ok (selected_by w m c)) at of refl
-virtual_found w heap class r m words (Some (Array element items)) true at of = tt
-
-interface_found : (w : World) (heap : Cells) (class r : ℕ) (m : MemberId) (words : List Value) (cell : Option Cell) (of_class : Bool)
-    → cell_at heap r ≡ cell → is_of_class w class cell ≡ of_class
-    → IsFound w heap class m Interface (Ref r ∷ words) (if of_class then selects w Interface m (class_of cell) else Err (failures.Stops stop_kinds.Receiver))
-interface_found w heap class r m words cell false at of = tt
-interface_found w heap class r m words None true at of = absurd (cc)
-interface_found w heap class r m words (Some (Object c fields)) true at of = selected_interface w heap class r c fields m words (result_ok (selected_by w m c)) at of refl
-interface_found w heap class r m words (Some (Array element items)) true at of = tt
-
-special_found : (w : World) (heap : Cells) (class r : ℕ) (m : MemberId) (words : List Value) (of_class : Bool) → is_of_class w class (cell_at heap r) ≡ of_class
-    → IsFound w heap class m Special (Ref r ∷ words) (if of_class then selects w Special m (class_of (cell_at heap r)) else Err (failures.Stops stop_kinds.Receiver))
-special_found w heap class r m words false of = tt
-special_found w heap class r m words true of = rows.special of
-
--- what a call's receiver makes of it
-receiver_found : (w : World) (heap : Cells) (class : ℕ) (m : MemberId) (call : Call) (receiver : Value) (words : List Value)
-    → IsFound w heap class m call (receiver ∷ words) (target w heap class call m (receiver ∷ words))
-receiver_found w heap class m Static receiver words = rows.static
-receiver_found w heap class m Virtual (Ref r) words = virtual_found w heap class r m words (cell_at heap r) (is_of_class w class (cell_at heap r)) refl refl
-receiver_found w heap class m Virtual Null words = record { null = refl; instance = λ is. absurd (cc); arguments = words; first = refl }
-receiver_found w heap class m Virtual other words = tt
-receiver_found w heap class m Interface (Ref r) words = interface_found w heap class r m words (cell_at heap r) (is_of_class w class (cell_at heap r)) refl refl
-receiver_found w heap class m Interface Null words = record { null = refl; instance = λ is. absurd (cc); arguments = words; first = refl }
-receiver_found w heap class m Interface other words = tt
-receiver_found w heap class m Special (Ref r) words = special_found w heap class r m words (is_of_class w class (cell_at heap r)) refl
-receiver_found w heap class m Special Null words = record { null = refl; instance = λ is. absurd (cc); arguments = words; first = refl }
-receiver_found w heap class m Special other words = tt
-
-found : (w : World) (heap : Cells) (class : ℕ) (m : MemberId) (call : Call) (words : List Value) → IsFound w heap class m call words (target w heap class call m words)
-found w heap class m Static [] = rows.static
-found w heap class m Virtual [] = tt
-found w heap class m Special [] = tt
-found w heap class m Interface [] = tt
-found w heap class m call (receiver ∷ words) = receiver_found w heap class m call receiver words
-
 -- the method runs, where its code holds the words
 code_row : (w : World) (s : Standing) (at : Here) (call : Call) (i : ℕ) (c : Taken w s at call i) (t : MemberId) (code : Code) (holds : Bool)
-    → rows.Dispatched w at.heap c.meant.class c.meant.method call c.handed.words t → code_at w t ≡ Some code → has_locals code c.handed.words ≡ holds
+    → Dispatched w at.heap at.frame.method.class c.meant call c.handed.words t → code_at w t ≡ Some code → has_locals code c.handed.words ≡ holds
     → Row w s at (acts.Call call i) (if holds then Enters (waiting at c.handed.rest) (new_frame t code c.handed.words) else Stops stop_kinds.Shape)
 code_row w s at call i c t code false dispatched has is = rows.stops
 code_row w s at call i c t code true dispatched has is =
@@ -273,13 +201,13 @@ code_row w s at call i c t code true dispatched has is =
     })
 
 entered_row : (w : World) (s : Standing) (at : Here) (call : Call) (i : ℕ) (c : Taken w s at call i) (t : MemberId) (native : Bool) (code : Option Code)
-    → rows.Dispatched w at.heap c.meant.class c.meant.method call c.handed.words t → code_at w t ≡ code
+    → Dispatched w at.heap at.frame.method.class c.meant call c.handed.words t → code_at w t ≡ code
     → Row w s at (acts.Call call i) (enter_code at c.handed t native code)
 entered_row w s at call i c t native None dispatched has = rows.stops
 entered_row w s at call i c t native (Some code) dispatched has = code_row w s at call i c t code (has_locals code c.handed.words) dispatched has refl
 
 target_row : (w : World) (s : Standing) (at : Here) (call : Call) (i : ℕ) (c : Taken w s at call i) (found : Result MemberId Failure)
-    → IsFound w at.heap c.meant.class c.meant.method call c.handed.words found
+    → IsFound w at.heap at.frame.method.class c.meant call c.handed.words found
     → Row w s at (acts.Call call i) (enter_target w at c.handed found)
 target_row w s at call i c (Ok t) is = entered_row w s at call i c t (is_outside (method_of w t).flags) (code_at w t) is refl
 target_row w s at call i c (Err (failures.Stops k)) is = rows.stops
@@ -288,35 +216,35 @@ target_row w s at call i c (Err (failures.Throws what)) is =
     (rows.null_receiver (record { taken = c; instance = is.instance; arguments = is.arguments; null = is.first }))
 
 words_typed_row : (w : World) (s : Standing) (at : Here) (call : Call) (i : ℕ) (meant : Meant) (handed : Handed) (typed : Bool)
-    → linked_by w at.frame.method.class call (member_at s.class.pool i) ≡ Ok meant
+    → meant_by w call (member_at s.class.pool i) ≡ Ok meant
     → taken (receiver_words call + words_of_all (parameters_of (method_of w meant.method).desc)) at.frame.stack ≡ Some handed
     → are_words w at.heap call (parameters_of (method_of w meant.method).desc) handed.words ≡ typed
     → Row w s at (acts.Call call i)
-    (if typed then enter_target w at handed (target w at.heap meant.class call meant.method handed.words) else Stops stop_kinds.Shape)
-words_typed_row w s at call i meant handed false links takes typed = rows.stops
-words_typed_row w s at call i meant handed true links takes typed =
+    (if typed then enter_target w at handed (target w at.heap at.frame.method.class call meant handed.words) else Stops stop_kinds.Shape)
+words_typed_row w s at call i meant handed false means takes typed = rows.stops
+words_typed_row w s at call i meant handed true means takes typed =
     target_row w s at call i
-    (record { meant = meant; links = links; handed = handed; takes = takes; typed = typed })
-    (target w at.heap meant.class call meant.method handed.words) (found w at.heap meant.class meant.method call handed.words)
+    (record { meant = meant; means = means; handed = handed; takes = takes; typed = typed })
+    (target w at.heap at.frame.method.class call meant handed.words) (found w at.heap at.frame.method.class meant call handed.words)
 
 handed_row : (w : World) (s : Standing) (at : Here) (call : Call) (i : ℕ) (meant : Meant) (found : Option Handed)
-    → linked_by w at.frame.method.class call (member_at s.class.pool i) ≡ Ok meant
+    → meant_by w call (member_at s.class.pool i) ≡ Ok meant
     → taken (receiver_words call + words_of_all (parameters_of (method_of w meant.method).desc)) at.frame.stack ≡ found
-    → Row w s at (acts.Call call i) (hand_over w at meant.class call meant.method found)
-handed_row w s at call i meant None links takes = rows.stops
-handed_row w s at call i meant (Some handed) links takes =
-    words_typed_row w s at call i meant handed (are_words w at.heap call (parameters_of (method_of w meant.method).desc) handed.words) links takes refl
+    → Row w s at (acts.Call call i) (hand_over w at call meant found)
+handed_row w s at call i meant None means takes = rows.stops
+handed_row w s at call i meant (Some handed) means takes =
+    words_typed_row w s at call i meant handed (are_words w at.heap call (parameters_of (method_of w meant.method).desc) handed.words) means takes refl
 
-linked_row : (w : World) (s : Standing) (at : Here) (call : Call) (i : ℕ) (found : Result Meant Construct)
-    → linked_by w at.frame.method.class call (member_at s.class.pool i) ≡ found
-    → Row w s at (acts.Call call i) (call_linked w at call found)
-linked_row w s at call i (Err construct) links = rows.stops
-linked_row w s at call i (Ok meant) links =
-    handed_row w s at call i meant (taken (receiver_words call + words_of_all (parameters_of (method_of w meant.method).desc)) at.frame.stack) links refl
+meant_row : (w : World) (s : Standing) (at : Here) (call : Call) (i : ℕ) (found : Result Meant Construct)
+    → meant_by w call (member_at s.class.pool i) ≡ found
+    → Row w s at (acts.Call call i) (call_meant w at call found)
+meant_row w s at call i (Err construct) means = rows.stops
+meant_row w s at call i (Ok meant) means =
+    handed_row w s at call i meant (taken (receiver_words call + words_of_all (parameters_of (method_of w meant.method).desc)) at.frame.stack) means refl
 
 call_row : (w : World) (s : Standing) (at : Here) (kind : Call) (i : ℕ) → Row w s at (acts.Call kind i) (call w s at kind i)
 unfolding call
-call_row w s at kind i = linked_row w s at kind i (linked_by w at.frame.method.class kind (member_at s.class.pool i)) refl
+call_row w s at kind i = meant_row w s at kind i (meant_by w kind (member_at s.class.pool i)) refl
 
 -- ---- all instructions
 
@@ -365,26 +293,11 @@ room_on s wraps now room =
     let inside : nat_lt now.frame.pc (length s.code.bytes) ≡ true = le-leb (suc now.frame.pc) (length s.code.bytes) room.inside in
     rw (height, inside) refl
 
--- the method that runs is found
-dispatched_found : (w : World) (heap : Cells) (class : ℕ) (m : MemberId) (call : Call) (words : List Value) (t : MemberId)
-    → rows.Dispatched w heap class m call words t → target w heap class call m words ≡ Ok t
-dispatched_found w heap class m call words t rows.static = refl
-dispatched_found w heap class m call words t (rows.special of) = rw of refl
-dispatched_found w heap class m call words t (rows.virtual at below is) = rw (at, below, is) refl
-dispatched_found w heap class m call words t (rows.interface at below is) = rw (at, below, is) refl
-
-null_found : (w : World) (heap : Cells) (class : ℕ) (m : MemberId) (call : Call) (words : List Value) → ¬ (call ≡ Static)
-    → target w heap class call m (Null ∷ words) ≡ Err (failures.Throws raised.NullPointer)
-null_found w heap class m Static words static = absurd (static refl)
-null_found w heap class m Virtual words static = refl
-null_found w heap class m Special words static = refl
-null_found w heap class m Interface words static = refl
-
 -- a call comes to the words that it takes
 taken_call : (w : World) (s : Standing) (at : Here) (kind : Call) (i : ℕ) (c : Taken w s at kind i)
-    → call w s at kind i ≡ enter_target w at c.handed (target w at.heap c.meant.class kind c.meant.method c.handed.words)
+    → call w s at kind i ≡ enter_target w at c.handed (target w at.heap at.frame.method.class kind c.meant c.handed.words)
 unfolding call
-taken_call w s at kind i c = rw (c.links, c.takes, c.typed) refl
+taken_call w s at kind i c = rw (c.means, c.takes, c.typed) refl
 
 -- an instruction that changes words alone
 computed_acts : (w : World) (s : Standing) (at : Here) (action : Action) (wraps : Bool) (locals stack : List Value)
@@ -471,13 +384,13 @@ entered_acts : (w : World) (s : Standing) (at : Here) (kind : Call) (i : ℕ) (c
     → call w s at kind i ≡ Enters caller callee
 entered_acts w s at kind i caller callee c =
     let room : has_locals c.code c.taken.handed.words ≡ true = has_both (length c.taken.handed.words) c.code.max_locals (length c.code.bytes) c.holds c.begins in
-    let found : target w at.heap c.taken.meant.class kind c.taken.meant.method c.taken.handed.words ≡ Ok c.target = dispatched_found w at.heap c.taken.meant.class c.taken.meant.method kind c.taken.handed.words c.target c.dispatches in
+    let found : target w at.heap at.frame.method.class kind c.taken.meant c.taken.handed.words ≡ Ok c.target = dispatched_found w at.heap at.frame.method.class c.taken.meant kind c.taken.handed.words c.target c.dispatches in
     taken_call w s at kind i c.taken ∙ ap (enter_target w at c.taken.handed) found ∙ (rw (c.has_code, room, c.waits, c.enters) refl)
 
 null_acts : (w : World) (s : Standing) (at : Here) (kind : Call) (i : ℕ) → rows.CalledOnNull w s at kind i → call w s at kind i ≡ Throws raised.NullPointer
 null_acts w s at kind i c =
-    let first : target w at.heap c.taken.meant.class kind c.taken.meant.method c.taken.handed.words ≡ Err (failures.Throws raised.NullPointer) =
-    rw c.null (null_found w at.heap c.taken.meant.class c.taken.meant.method kind c.arguments c.instance) in
+    let first : target w at.heap at.frame.method.class kind c.taken.meant c.taken.handed.words ≡ Err (failures.Throws raised.NullPointer) =
+    rw c.null (null_found w at.heap at.frame.method.class c.taken.meant kind c.arguments c.instance) in
     taken_call w s at kind i c.taken ∙ ap (enter_target w at c.taken.handed) first
 
 new_acts : (w : World) (s : Standing) (at : Here) (i c : ℕ) → made_by w (class_name_at s.class.pool i) ≡ Ok c → new_object w s at i ≡ goes_on s.code false (with_object w s at c)

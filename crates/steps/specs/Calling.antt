@@ -13,7 +13,7 @@ use Rattle.world.specs.declared.member.MemberId.{MemberId}
 use Rattle.class_hierarchy.specs.World.{World}
 use Rattle.world.specs.Selection.{method_of, selected_by}
 use Rattle.linking.specs.declared.calls.Meant.{Meant}
-use Rattle.linking.specs.Calls.{linked_by}
+use Rattle.linking.specs.Calls.{looked_up, meant_by}
 use Rattle.linking.specs.Methods.{code_at}
 use Rattle.descriptors.specs.Pieces.{parameters_of, result_of}
 use Rattle.descriptors.specs.Texts.{words_of_all}
@@ -79,24 +79,30 @@ abbrev pub or_link : Option MemberId → Result MemberId Failure
 or_link None = Err (failures.Stops stops.Link)
 or_link (Some m) = Ok m
 
--- the method itself, or the one that the receiver's class selects; an array's class selects none
-abbrev pub selects : World → Call → MemberId → Option ℕ → Result MemberId Failure
-selects w Special m class = Ok m
-selects w Static m class = Ok m
-selects w call m None = Err (failures.Stops stops.Link)
-selects w call m (Some c) = or_link (result_ok (selected_by w m c))
+-- what stands against a method that is looked up stops the run
+abbrev pub or_stop : Result MemberId Construct → Result MemberId Failure
+or_stop (Err construct) = Err (failures.Stops (stop_of construct))
+or_stop (Ok m) = Ok m
+
+-- the method that is looked up, or the one that the receiver's class selects; an array's class selects none
+abbrev pub selects : World → ℕ → Call → Meant → Option ℕ → Result MemberId Failure
+selects w current Special m class = or_stop (looked_up w current Special m)
+selects w current Static m class = Ok m.method
+selects w current call m None = Err (failures.Stops stops.Link)
+selects w current call m (Some c) = or_link (result_ok (selected_by w m.method c))
 
 -- null throws, and a receiver that isn't of the class that is named stops
-abbrev pub on_receiver : World → Cells → ℕ → Call → MemberId → Value → Result MemberId Failure
-on_receiver w heap class call m (Ref r) =
-    if is_of_class w class (cell_at heap r) then selects w call m (class_of (cell_at heap r)) else Err (failures.Stops stops.Receiver)
-on_receiver w heap class call m Null = Err (failures.Throws raised.NullPointer)
-on_receiver w heap class call m other = Err (failures.Stops stops.Shape)
+abbrev pub on_receiver : World → Cells → ℕ → Call → Meant → Value → Result MemberId Failure
+on_receiver w heap current call m (Ref r) =
+    if is_of_class w m.class (cell_at heap r) then selects w current call m (class_of (cell_at heap r)) else Err (failures.Stops stops.Receiver)
+on_receiver w heap current call m Null = Err (failures.Throws raised.NullPointer)
+on_receiver w heap current call m other = Err (failures.Stops stops.Shape)
 
-abbrev pub target : World → Cells → ℕ → Call → MemberId → List Value → Result MemberId Failure
-target w heap class Static m words = Ok m
-target w heap class call m [] = Err (failures.Stops stops.Shape)
-target w heap class call m (receiver ∷ words) = on_receiver w heap class call m receiver
+-- the method that runs by a call in the current class
+abbrev pub target : World → Cells → ℕ → Call → Meant → List Value → Result MemberId Failure
+target w heap current Static m words = Ok m.method
+target w heap current call m [] = Err (failures.Stops stops.Shape)
+target w heap current call m (receiver ∷ words) = on_receiver w heap current call m receiver
 
 -- ---- the new frame (JVMS 2.6)
 
@@ -127,21 +133,21 @@ enter_target w here h (Ok m) = enter_code here h m (is_outside (method_of w m).f
 
 -- ---- a call
 
-abbrev pub hand_over : World → Here → ℕ → Call → MemberId → Option Handed → Outcome
-hand_over w here class call m None = Stops stops.Shape
-hand_over w here class call m (Some h) =
-    if are_words w here.heap call (parameters_of (method_of w m).desc) h.words
-    then enter_target w here h (target w here.heap class call m h.words)
+abbrev pub hand_over : World → Here → Call → Meant → Option Handed → Outcome
+hand_over w here call m None = Stops stops.Shape
+hand_over w here call m (Some h) =
+    if are_words w here.heap call (parameters_of (method_of w m.method).desc) h.words
+    then enter_target w here h (target w here.heap here.frame.method.class call m h.words)
     else Stops stops.Shape
 
-abbrev pub call_linked : World → Here → Call → Result Meant Construct → Outcome
-call_linked w here call (Err construct) = Stops (stop_of construct)
-call_linked w here call (Ok m) =
-    hand_over w here m.class call m.method (taken (receiver_words call + words_of_all (parameters_of (method_of w m.method).desc)) here.frame.stack)
+abbrev pub call_meant : World → Here → Call → Result Meant Construct → Outcome
+call_meant w here call (Err construct) = Stops (stop_of construct)
+call_meant w here call (Ok m) =
+    hand_over w here call m (taken (receiver_words call + words_of_all (parameters_of (method_of w m.method).desc)) here.frame.stack)
 
 -- the outcome of a call of the member reference with this index
 unfoldable pub call : World → Standing → Here → Call → ℕ → Outcome
-call w s here kind i = call_linked w here kind (linked_by w here.frame.method.class kind (member_at s.class.pool i))
+call w s here kind i = call_meant w here kind (meant_by w kind (member_at s.class.pool i))
 
 -- ---- returns (JVMS 6.5.ireturn)
 

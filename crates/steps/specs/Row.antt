@@ -14,7 +14,7 @@ use Rattle.world.specs.declared.member.MemberId.{MemberId}
 use Rattle.class_hierarchy.specs.World.{World, is_below}
 use Rattle.world.specs.Selection.{method_of, selected_by}
 use Rattle.linking.specs.declared.calls.Meant.{Meant}
-use Rattle.linking.specs.Calls.{linked_by}
+use Rattle.linking.specs.Calls.{looked_up, meant_by}
 use Rattle.linking.specs.Members.{made_by}
 use Rattle.linking.specs.Methods.{code_at}
 use Rattle.frames.specs.declared.value.Value.{Value}
@@ -49,24 +49,26 @@ pub record HasRoom (code : Code) (now : Here) : Type 0 where
 
 -- ---- calls
 
--- Which method runs: the one that the call means, or the one that the class of the receiver selects. A receiver is
--- of the class that is named.
-pub data Dispatched (w : World) (heap : Cells) (class : ℕ) (m : MemberId) : Call → List Value → MemberId → Type 0 where
-  static : {words : List Value} → Dispatched w heap class m Static words m
-  special : {r : ℕ} {words : List Value} → is_of_class w class (cell_at heap r) ≡ true → Dispatched w heap class m Special (Ref r ∷ words) m
+-- Which method runs by a call in the current class: the one that is looked up, or the one that the class of the receiver
+-- selects. A receiver is of the class that is named.
+pub data Dispatched (w : World) (heap : Cells) (current : ℕ) (m : Meant) : Call → List Value → MemberId → Type 0 where
+  static : {words : List Value} → Dispatched w heap current m Static words m.method
+  special :
+      {r : ℕ} {words : List Value} {t : MemberId} → is_of_class w m.class (cell_at heap r) ≡ true → looked_up w current Special m ≡ Ok t
+      → Dispatched w heap current m Special (Ref r ∷ words) t
   virtual :
       {r c : ℕ} {fields : List (MemberId × Value)} {words : List Value} {t : MemberId}
-      → cell_at heap r ≡ Some (Object c fields) → is_below w c class ≡ true → selected_by w m c ≡ Ok t
-      → Dispatched w heap class m Virtual (Ref r ∷ words) t
+      → cell_at heap r ≡ Some (Object c fields) → is_below w c m.class ≡ true → selected_by w m.method c ≡ Ok t
+      → Dispatched w heap current m Virtual (Ref r ∷ words) t
   interface :
       {r c : ℕ} {fields : List (MemberId × Value)} {words : List Value} {t : MemberId}
-      → cell_at heap r ≡ Some (Object c fields) → is_below w c class ≡ true → selected_by w m c ≡ Ok t
-      → Dispatched w heap class m Interface (Ref r ∷ words) t
+      → cell_at heap r ≡ Some (Object c fields) → is_below w c m.class ≡ true → selected_by w m.method c ≡ Ok t
+      → Dispatched w heap current m Interface (Ref r ∷ words) t
 
--- A call up to the words that it takes: what it is linked to, and what it takes from the operand stack.
+-- A call up to the words that it takes: what it means, and what it takes from the operand stack.
 pub record Taken (w : World) (s : Standing) (at : Here) (call : Call) (i : ℕ) : Type 0 where
   pub meant : Meant
-  pub links : linked_by w at.frame.method.class call (member_at s.class.pool i) ≡ Ok meant
+  pub means : meant_by w call (member_at s.class.pool i) ≡ Ok meant
   pub handed : Handed
   pub takes : taken (receiver_words call + words_of_all (parameters_of (method_of w meant.method).desc)) at.frame.stack ≡ Some handed
   pub typed : are_words w at.heap call (parameters_of (method_of w meant.method).desc) handed.words ≡ true
@@ -75,7 +77,7 @@ pub record Taken (w : World) (s : Standing) (at : Here) (call : Call) (i : ℕ) 
 pub record Called (w : World) (s : Standing) (at : Here) (call : Call) (i : ℕ) (caller callee : Frame) : Type 0 where
   pub taken : Taken w s at call i
   pub target : MemberId
-  pub dispatches : Dispatched w at.heap taken.meant.class taken.meant.method call taken.handed.words target
+  pub dispatches : Dispatched w at.heap at.frame.method.class taken.meant call taken.handed.words target
   pub code : Code
   pub has_code : code_at w target ≡ Some code
   pub holds : length taken.handed.words ≤ code.max_locals

@@ -5,27 +5,28 @@ ghost use Rattle.std.specs.Option.{option_copied};
 ghost use Rattle.world.specs.Tables.{HasMethod};
 ghost use Rattle.frames.specs.Heap.{class_of, is_of_class};
 ghost use Rattle.frames.specs.Standing.{IsFetched};
-ghost use Rattle.steps.specs.Calling.{call, call_linked, has_locals, is_outside, new_frame, on_receiver, selects, target};
+ghost use Rattle.steps.specs.Calling.{call, call_meant, has_locals, is_outside, new_frame, on_receiver, selects, target};
 ghost use Rattle.steps.specs.inside.Stepping.{Gives, HasEntered, Selects, frame_in, frame_of};
 
 use crate::halt::Halt;
 use crate::handing::{are_words, receiver_words};
-use crate::links::{UNLINKED, link, select};
+use crate::links::{UNLINKED, link, look_up, select};
 use class_reader::{Code, Method, is_abstract, is_native};
 use descriptors::parameter_words;
 use frames::{Cell, Failure, Fetched, Frame, Heap, Here, Locals, Raised, Stack, Stop, Value};
+use linking::Meant;
 use op_table::acts::Call;
 use std::alloc::{AllocError, Global};
 use world::{MemberId, World};
 
 const MISFIT: Halt = Halt::Fails(Failure::Stops(Stop::Shape));
 
-// What a call names: the class, and the method that is looked up.
+// A call in the current class, and what it means.
 #[derive(Clone, Copy)]
 struct Callee {
+    current: u32,
     kind: Call,
-    class: u32,
-    method: MemberId,
+    meant: Meant,
 }
 
 // The frame that is entered, and how many words it takes over.
@@ -56,20 +57,21 @@ fn class_of(cell: Option<&Cell>) -> Option<u32>
     }
 }
 
-// The method itself, or the one that the receiver's class selects.
+// The method that is looked up, or the one that the receiver's class selects.
 fn selects(
     alloc: Global,
     world: &World,
     callee: Callee,
     class: Option<u32>,
 ) -> Result<MemberId, Halt>
-    requires { HasMethod world.now callee.method }
-    ensures { Selects result (selects world.now callee.kind callee.method class) }
+    requires { HasMethod world.now callee.meant.method }
+    ensures { Selects result (selects world.now callee.current callee.kind callee.meant class) }
 {
     match callee.kind {
-        Call::Special | Call::Static => Ok(callee.method),
+        Call::Special => look_up(alloc, world, callee.current, callee.kind, callee.meant),
+        Call::Static => Ok(callee.meant.method),
         Call::Virtual | Call::Interface => match class {
-            Some(class) => select(alloc, world, callee.method, class),
+            Some(class) => select(alloc, world, callee.meant.method, class),
             None => Err(UNLINKED),
         },
     }
@@ -83,13 +85,13 @@ fn on_receiver(
     callee: Callee,
     receiver: Value,
 ) -> Result<MemberId, Halt>
-    requires { HasMethod world.now callee.method }
-    ensures { Selects result (on_receiver world.now heap.now callee.class callee.kind callee.method receiver) }
+    requires { HasMethod world.now callee.meant.method }
+    ensures { Selects result (on_receiver world.now heap.now callee.current callee.kind callee.meant receiver) }
 {
     match receiver {
         Value::Ref(number) => {
             let cell = heap.get(number);
-            if is_of_class(world, callee.class, cell) {
+            if is_of_class(world, callee.meant.class, cell) {
                 selects(alloc, world, callee, class_of(cell))
             } else {
                 Err(Halt::Fails(Failure::Stops(Stop::Receiver)))
@@ -108,11 +110,11 @@ fn target(
     callee: Callee,
     words: &[Value],
 ) -> Result<MemberId, Halt>
-    requires { HasMethod world.now callee.method }
-    ensures { Selects result (target world.now heap.now callee.class callee.kind callee.method words.now) }
+    requires { HasMethod world.now callee.meant.method }
+    ensures { Selects result (target world.now heap.now callee.current callee.kind callee.meant words.now) }
 {
     match callee.kind {
-        Call::Static => Ok(callee.method),
+        Call::Static => Ok(callee.meant.method),
         _ => match words {
             [receiver, ..] => on_receiver(alloc, world, heap, callee, *receiver),
             [] => Err(MISFIT),
@@ -184,20 +186,31 @@ fn frame_of(alloc: Global, world: &World, method: MemberId, words: &[Value]) -> 
     }
 }
 
-// The frame that a call of this method enters, by the words on the stack.
-fn hand_over(alloc: Global, world: &World, here: &Here, callee: Callee) -> Result<Entered, Halt>
-    requires { HasMethod world.now callee.method }
-    ensures { HasEntered result here.now (call_linked world.now here.now callee.kind (Ok (record { class = callee.class; method = callee.method }))) }
+// The frame that a call enters, by the words on the stack.
+fn hand_over(
+    alloc: Global,
+    world: &World,
+    here: &Here,
+    kind: Call,
+    meant: Meant,
+) -> Result<Entered, Halt>
+    requires { HasMethod world.now meant.method }
+    ensures { HasEntered result here.now (call_meant world.now here.now kind (Ok meant)) }
 {
-    let desc = world.method_at(callee.method).desc.as_slice();
-    let count = receiver_words(callee.kind) + parameter_words(desc);
+    let desc = world.method_at(meant.method).desc.as_slice();
+    let count = receiver_words(kind) + parameter_words(desc);
     if here.frame.stack.len() < count {
         return Err(MISFIT);
     }
     let words = here.frame.stack.front(count);
-    if !are_words(world, &here.heap, callee.kind, desc, words) {
+    if !are_words(world, &here.heap, kind, desc, words) {
         return Err(MISFIT);
     }
+    let callee = Callee {
+        current: here.frame.method.class,
+        kind,
+        meant,
+    };
     let method = target(alloc, world, &here.heap, callee, words)?;
     let frame = frame_of(alloc, world, method, words)?;
     Ok(Entered {
@@ -219,18 +232,6 @@ pub(crate) fn call(
     requires { IsFetched world.now fetched.now here.now }
     ensures { HasEntered result here.now (call world.now fetched.now.standing here.now kind index) }
 {
-    let meant = link(
-        alloc,
-        world,
-        here.frame.method.class,
-        kind,
-        &fetched.class.pool,
-        index,
-    )?;
-    let callee = Callee {
-        kind,
-        class: meant.class,
-        method: meant.method,
-    };
-    hand_over(alloc, world, here, callee)
+    let meant = link(alloc, world, kind, &fetched.class.pool, index)?;
+    hand_over(alloc, world, here, kind, meant)
 }

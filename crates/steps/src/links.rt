@@ -1,18 +1,18 @@
-//! What calls are linked to, and what stops the run where they aren't.
+//! What calls mean and look up, and what stops the run where nothing stands there.
 
 ghost use Rattle.std.specs.Prelude.{◌≡◌, ◌<◌, length, IfOk};
 ghost use Rattle.std.specs.Result.{result_ok};
 ghost use Rattle.class_pool.specs.Pool.{member_at};
 ghost use Rattle.world.specs.Selection.{selected_by};
 ghost use Rattle.world.specs.Tables.{HasMethod};
-ghost use Rattle.linking.specs.Calls.{linked_by};
+ghost use Rattle.linking.specs.Calls.{looked_up, meant_by};
 ghost use Rattle.frames.specs.Outcome.{stop_of};
-ghost use Rattle.steps.specs.inside.Stepping.{IsLinked, Links};
+ghost use Rattle.steps.specs.inside.Stepping.{IsLinked, IsUnlinked, Links};
 
 use crate::halt::Halt;
 use class_pool::Pool;
 use frames::{Failure, Stop, stop_of};
-use linking::{LinkFault, Meant, linked_by};
+use linking::{LinkFault, Meant, looked_up, meant_by};
 use op_table::acts::Call;
 use std::alloc::Global;
 use world::{MemberId, ResolveFault, World};
@@ -36,23 +36,46 @@ pub(crate) fn select(
     }
 }
 
-// What a call in the current class is linked to by a member reference.
+// Want of memory, or the stop of what stands against a name.
+fn unlinked(fault: LinkFault) -> Halt
+    ensures { IsUnlinked result fault }
+{
+    match fault {
+        LinkFault::Memory => Halt::Memory,
+        LinkFault::Against(construct) => Halt::Fails(Failure::Stops(stop_of(construct))),
+    }
+}
+
+// What a call means by a member reference.
 pub(crate) fn link(
     alloc: Global,
     world: &World,
-    current: u32,
     kind: Call,
     pool: &Pool,
     index: u16,
 ) -> Result<Meant, Halt>
     ensures there { IfOk result (λ m. HasMethod world.now m.method) }
-    ensures exact { IsLinked result (linked_by world.now current kind (member_at pool.now index)) }
+    ensures exact { IsLinked result (meant_by world.now kind (member_at pool.now index)) }
 {
-    match linked_by(alloc, world, current, kind, pool, index) {
+    match meant_by(alloc, world, kind, pool, index) {
         Ok(meant) => Ok(meant),
-        Err(LinkFault::Memory) => Err(Halt::Memory),
-        Err(LinkFault::Against(construct)) => {
-            Err(Halt::Fails(Failure::Stops(stop_of(construct))))
-        }
+        Err(fault) => Err(unlinked(fault)),
+    }
+}
+
+// The method that a call in the current class looks up.
+pub(crate) fn look_up(
+    alloc: Global,
+    world: &World,
+    current: u32,
+    kind: Call,
+    meant: Meant,
+) -> Result<MemberId, Halt>
+    requires { HasMethod world.now meant.method }
+    ensures { IsLinked result (looked_up world.now current kind meant) }
+{
+    match looked_up(alloc, world, current, kind, meant) {
+        Ok(method) => Ok(method),
+        Err(fault) => Err(unlinked(fault)),
     }
 }

@@ -5,7 +5,8 @@ use Rattle.op_table.specs.declared.construct.Construct.{Construct}
 use Rattle.world.specs.declared.member.MemberId.{MemberId}
 use Rattle.class_hierarchy.specs.World.{World, class_at}
 use Rattle.world.specs.Selection.{method_of}
-use Rattle.linking.specs.declared.calls.Meant.{Meant}
+use Rattle.linking.specs.declared.fault.LinkFault.{LinkFault}
+use Rattle.linking.specs.declared.fault.LinkFault.TheVariants as link_faults
 use Rattle.frames.specs.declared.value.Value.{Value}
 use Rattle.frames.specs.declared.value.Value.TheVariants.{Ref}
 use Rattle.frames.specs.declared.heap.Cell.{Cell}
@@ -63,11 +64,16 @@ Links (Ok m) meant = meant ≡ Some m
 Links (Err halts.Memory) meant = Unit {0}
 Links (Err (halts.Fails failure)) meant = (meant ≡ None) × (failure ≡ failures.Stops stops.Link)
 
--- a call is linked to this, or something stands against it, which stops the run; memory aside
-abbrev pub IsLinked : Result Meant Halt → Result Meant Construct → Type 0
-IsLinked (Ok m) meant = meant ≡ Ok m
-IsLinked (Err halts.Memory) meant = Unit {0}
-IsLinked (Err (halts.Fails failure)) meant = (construct : Construct) × (meant ≡ Err construct) × (failure ≡ failures.Stops (stop_of construct))
+-- what a call names is this, or something stands against it, which stops the run; memory aside
+abbrev pub IsLinked : {A : Type 0} → Result A Halt → Result A Construct → Type 0
+IsLinked (Ok x) named = named ≡ Ok x
+IsLinked (Err halts.Memory) named = Unit {0}
+IsLinked (Err (halts.Fails failure)) named = (construct : Construct) × (named ≡ Err construct) × (failure ≡ failures.Stops (stop_of construct))
+
+-- a fault of linking stops the run; memory aside
+abbrev pub IsUnlinked : Halt → LinkFault → Type 0
+IsUnlinked halts.Memory fault = fault ≡ link_faults.Memory
+IsUnlinked (halts.Fails failure) fault = (construct : Construct) × (fault ≡ link_faults.Against construct) × (failure ≡ failures.Stops (stop_of construct))
 
 -- the method that runs, or why none does; memory aside
 abbrev pub Selects : Result MemberId Halt → Result MemberId Failure → Type 0

@@ -23,13 +23,13 @@ pub within_body : PlacedStand → CodeIsLaidOut → (b : MethodBody) → IsBody 
 within_body stand laid b body =
     within b.code.bytes stand b.instructions body.instructions_are (laid b.code.bytes body.has_code.sound)
 
-mixed_alone : (a : KindFact) → fact_below facts.Mixed a ≡ true → a ≡ facts.Mixed
+pub mixed_alone : (a : KindFact) → fact_below facts.Mixed a ≡ true → a ≡ facts.Mixed
 mixed_alone facts.Unreached h = absurd cc
 mixed_alone (facts.Known a) h = absurd cc
 mixed_alone facts.Mixed h = refl
 
 -- a frame that comes has as many slots as its height says
-comes_length : (b : MethodBody) {pc : ℕ} {f : KindFrame} → Comes b pc f → length f.slots ≡ b.code.max_locals + words_in f.height
+pub comes_length : (b : MethodBody) {pc : ℕ} {f : KindFrame} → Comes b pc f → length f.slots ≡ b.code.max_locals + words_in f.height
 comes_length b at_start = (entry_is b).0.0
 comes_length b (onward {frame = f} edge c h) = slots_after b.class.pool edge.action b.code.max_locals f (comes_length b h)
 

@@ -1,3 +1,5 @@
+mod Counts
 mod Places
 mod Telling
 mod Arrivals
+mod Mixing

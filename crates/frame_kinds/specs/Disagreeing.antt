@@ -9,7 +9,7 @@ use Rattle.fix_engine.specs.Solution.{IsLeast, at_points}
 use Rattle.kind_frames.specs.Frames.{kind_order, fact_below}
 use Rattle.kind_frames.specs.declared.fact.KindFact.{KindFact}
 use Rattle.kind_frames.specs.declared.fact.KindFact.TheVariants as facts
-use Rattle.kind_effects.specs.Frames.{uses_top}
+use Rattle.kind_effects.specs.Frames.{uses_top, IsFact}
 use Rattle.frame_kinds.specs.declared.edge.Edge.{Edge}
 use Rattle.frame_kinds.specs.declared.fault.KindFault.{KindFault}
 use Rattle.frame_kinds.specs.declared.fault.KindFault.TheVariants.{Disagree, Memory}
@@ -82,3 +82,9 @@ IsFault b Memory = Unit {0}
 pub record AreKinds (b : MethodBody) (found : List KindFact) : Type 0 where
   pub least : IsLeast kind_order (kind_problem b) (at_points (kind_problem b) found)
   pub agree : first_disagreement b (at_points (kind_problem b) found) ≡ None
+
+-- ---- the law
+
+-- of one method's facts, two that lie below each other are one
+abbrev pub SameFactsAreOne : Type 0
+SameFactsAreOne = (locals : ℕ) (one other : KindFact) → IsFact locals one → IsFact locals other → is_same one other ≡ true → one ≡ other

@@ -82,7 +82,7 @@ start_if b false = (tt, tt)
 
 -- ---- edges
 
-edge_in : (edges : List Edge) (e : ℕ) → e < length edges → Contains edges (edge_at edges e)
+pub edge_in : (edges : List Edge) (e : ℕ) → e < length edges → Contains edges (edge_at edges e)
 edge_in [] e l = absurd (omega arith)
 edge_in (edge ∷ edges) zero l = contains_head edge edges
 edge_in (edge ∷ edges) (suc e) l = contains_tail edge edges (edge_at edges e) (edge_in edges e (omega arith))

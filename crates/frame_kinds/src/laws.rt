@@ -1,5 +1,6 @@
 //! The laws of the frames that come to a place. Nothing runs here: each contract is the law.
-ghost use Rattle.frame_kinds.specs.Arriving.{FramesLieBelow, HeightsAreSeen};
+ghost use Rattle.frame_kinds.specs.Disagreeing.{SameFactsAreOne};
+ghost use Rattle.frame_kinds.specs.Arriving.{FramesLieBelow, HeightsAreSeen, MixedComeApart};
 
 use code_blocks::code_is_laid_out;
 
@@ -16,3 +17,16 @@ pub fn heights_are_seen()
 {
     code_is_laid_out();
 }
+
+/// Where the least solution says that frames of different heights come to a place, two ways through the code lead there
+/// with different heights, if no descriptor of the constant pool is longer than a text of a class file.
+pub fn mixed_come_apart()
+    ensures { MixedComeApart }
+{
+    code_is_laid_out();
+}
+
+/// Facts of one method that lie below each other are one fact.
+pub fn same_facts_are_one()
+    ensures { SameFactsAreOne }
+{}

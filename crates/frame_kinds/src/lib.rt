@@ -13,5 +13,5 @@ pub use edge::Edge;
 pub use fault::KindFault;
 pub use flow::KindFlow;
 pub use known::Kinds;
-pub use laws::{frames_lie_below, heights_are_seen};
+pub use laws::{frames_lie_below, heights_are_seen, mixed_come_apart, same_facts_are_one};
 pub use solving::kinds;

@@ -1,0 +1,10 @@
+pub mod Places
+pub mod Fitting
+pub mod Typed
+pub mod Frames
+pub mod Making
+pub mod Computing
+pub mod Jumping
+pub mod Elements
+pub mod Members
+pub mod Rows

@@ -7,3 +7,4 @@ mod Arriving
 mod Joining
 mod Whole
 mod Walking
+mod Reaching

@@ -14,5 +14,7 @@ mod point;
 pub use cutting::cut;
 pub use effects::stored_by;
 pub use found::{CodeLoop, CutFault, Loops};
-pub use laws::{loops_are_entered_at_entries, loops_are_left_to_exits, walks_repeat_nothing};
+pub use laws::{
+    blocks_are_reached, loops_are_entered_at_entries, loops_are_left_to_exits, walks_repeat_nothing,
+};
 pub use point::Point;

@@ -1,0 +1,14 @@
+pub mod Lines
+pub mod Exact
+pub mod Fitting
+pub mod Zeros
+pub mod Steps
+pub mod Places
+pub mod Before
+pub mod Kept
+pub mod Narrow
+pub mod Wide
+pub mod Pivoted
+pub mod First
+pub mod Pushes
+pub mod Moves

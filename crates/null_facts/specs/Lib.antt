@@ -1,0 +1,3 @@
+pub mod Program
+pub mod Facts
+pub mod Found

@@ -1,5 +1,5 @@
 -- What is made of two lists side by side, at the end of one of them.
-use Rattle.std.proofs.Common.{◌≡◌, ℕ, List, [], ◌∷◌, ◌++◌, length, refl, sym, ap, ◌∙◌, arith, flat_map}
+use Rattle.std.proofs.Common.{◌≡◌, List, [], ◌∷◌, ◌++◌, length, refl, sym, ap, ◌∙◌, arith, flat_map}
 use Rattle.std.specs.List.{zip}
 use Rattle.std.proofs.lemmas.List.{append-nil}
 

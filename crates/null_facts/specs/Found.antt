@@ -1,7 +1,6 @@
 -- What is found of null in a program.
-use Rattle.std.specs.Prelude.{◌≡◌, ℕ, ◌+◌, List, length}
+use Rattle.std.specs.Prelude.{◌≡◌, List, length}
 use Rattle.fix_engine.specs.Solution.{IsLeast, at_points}
-use Rattle.null_flow.specs.declared.fact.NullFact.{NullFact}
 use Rattle.null_flow.specs.Facts.{null_order}
 use Rattle.null_facts.specs.declared.method.NullMethod.{NullMethod}
 use Rattle.null_facts.specs.Facts.{Found}

@@ -14,16 +14,20 @@ pub struct NullFacts {
 }
 
 impl Model for NullFacts {
+    ghost use Rattle.std.specs.Prelude.{◌<◌, ◌^◌, length};
     ghost use Rattle.null_facts.specs.Facts.{Found};
 
     ghost Value = { Found };
 
     ghost view = { λ found. record { facts = found.facts; firsts = found.firsts.items } };
+
+    ghost invariant = { λ found. length found.facts < 2 ^ 32 };
 }
 
 impl NullFacts {
     /// The facts, by the number of each method's first place.
     pub(crate) fn of(facts: Solution<NullFact>, firsts: Vec<u32>) -> Self
+        requires { length facts < 2 ^ 32 }
         ensures facts { result.facts ≡ facts }
         ensures firsts { result.firsts ≡ firsts.items }
     {
@@ -34,7 +38,6 @@ impl NullFacts {
     pub fn before(&self, method: u32, pc: u32) -> &NullFact
         requires method { method < length self.now.firsts }
         requires place { place_in self.now method pc < length self.now.facts }
-        requires few { length self.now.facts < 2 ^ 32 }
         ensures { slice_get self.now.facts (place_in self.now method pc) ≡ Some result.now }
     {
         self.facts.at(self.firsts[method as usize] + pc)

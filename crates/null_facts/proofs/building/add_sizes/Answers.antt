@@ -1,4 +1,3 @@
-use Rattle.std.proofs.Common.{arith}
 use Rattle.null_facts.proofs.Counting.{sizes_next}
 use Rattle.null_facts.proofs.building.add_sizes.Goals as goal
 

@@ -2,7 +2,7 @@ use Rattle.std.proofs.Common.{◌≡◌, ℕ, List, length, sym, subst, ◌∙�
 use Rattle.std.specs.List.{zip}
 use Rattle.null_flow.specs.declared.edge.NullEdge.{NullEdge}
 use Rattle.null_flow.specs.Flow.{IsBetween}
-use Rattle.null_facts.specs.Program.{sizes_of, firsts_of, edges_in, edges_of}
+use Rattle.null_facts.specs.Program.{edges_in, edges_of}
 use Rattle.null_facts.proofs.Between.{all_between}
 use Rattle.null_facts.proofs.solving.solve.Goals as goal
 

@@ -1,23 +1,23 @@
 -- A small cap is a cap.
-use Rattle.std.specs.Prelude.{◌≡◌, ◌≢◌, ℕ, zero, suc, ◌<◌, ◌≤◌, ℤ, pos, negsuc, ◌+ℤ◌, ◌-ℤ◌, ◌*ℤ◌, ◌≤ℤ◌, ◌<ℤ◌, List, [], ◌∷◌, map, All, length, Contains, Option, Some, None, Result, Ok, Err, IfOk, MatchOption}
+use Rattle.std.specs.Prelude.{◌≡◌, ℕ, zero, suc, ◌<◌, ◌≤◌, ℤ, pos, negsuc, ◌+ℤ◌, ◌-ℤ◌, ◌*ℤ◌, ◌≤ℤ◌, ◌<ℤ◌, List, [], ◌∷◌, map, length, Option, Some, None, Result, Ok, Err, IfOk, MatchOption}
 use Rattle.std.specs.declared.alloc.AllocError.{AllocError}
-use Rattle.std.proofs.Common.{arith, refl, sym, ap, ◌∙◌, subst, inl, inr, get_or}
+use Rattle.std.proofs.Common.{arith, refl, sym, subst, inl, inr, get_or}
 use Rattle.std.proofs.lemmas.Int.{ints}
-use Rattle.q128.specs.Fraction.{Fraction, whole, den_of, IsSame, IsAtMost, times}
+use Rattle.q128.specs.Fraction.{Fraction, whole, IsSame, IsAtMost, times}
 use Rattle.q128.proofs.Field.{same_sym, same_trans}
 use Rattle.q128.proofs.Ordered.{at_most_trans, are_ordered_field}
 use Rattle.lin_rows.specs.Linear.{Linear, coefficient_of, nothing}
-use Rattle.lin_rows.specs.Proving.{Multipliers, sum_coefficient, sum_constant, AreRowNumbers, IsSum, Reaches, Contradicts, Proves}
+use Rattle.lin_rows.specs.Proving.{Multipliers, sum_coefficient, sum_constant, AreRowNumbers, IsSum, Reaches, Contradicts}
 use Rattle.lin_rows.specs.Rows.{longest_of}
-use Rattle.lin_rows.specs.Transitions.{lin_plus, lin_times, places_sum}
+use Rattle.lin_rows.specs.Transitions.{lin_times, places_sum}
 use Rattle.lin_rows.proofs.LongestRows.{longest_room}
 use Rattle.lin_rows.proofs.Totals.{sum_is}
 use Rattle.small_sums.specs.Sums.{IsFactor}
-use Rattle.small_cert.specs.Small.{IsMultiple, IsSmallBy, AreShared, falsehood}
+use Rattle.small_cert.specs.Small.{IsSmallBy, AreShared, falsehood}
 use Rattle.small_cert.proofs.Proved.{scaled_at, small_reaches}
 use Rattle.small_caps.specs.Caps.{IsOver, excess_of, IsCapBy, IsSmallCap, own, dead, made, HasNoCap}
 use Rattle.small_caps.specs.declared.cap.SmallCap.{SmallCap}
-use Rattle.rankings.specs.Caps.{slack_of, IsCap}
+use Rattle.rankings.specs.Caps.{IsCap}
 use Rattle.node_certificates.proofs.Shares.{all_shared, shared_coefficient, shared_constant, unshared_same, unshared_most, not_negative_shared}
 
 -- ---- l - l

@@ -1,22 +1,18 @@
 -- What levels of a function say at points of the rows.
-use Rattle.std.specs.Prelude.{◌≡◌, ℕ, ℤ, pos, neg_ℤ, ◌*ℤ◌, ◌≤ℤ◌, List, length, All}
-use Rattle.std.proofs.Common.{arith, refl, sym, ap, ◌∙◌, subst, inl, inr, ⊎_elim, get_or}
+use Rattle.std.specs.Prelude.{ℕ, ℤ, pos, ◌*ℤ◌, ◌≤ℤ◌, List}
+use Rattle.std.proofs.Common.{arith, refl, sym, subst, inl, inr, get_or}
 use Rattle.std.proofs.lemmas.Int.{ints}
-use Rattle.std.proofs.Math.IntN.{*ℤ_comm}
-use Rattle.q128.specs.Fraction.{Fraction, whole, IsSame, IsAtMost, plus, negative, minus, times}
-use Rattle.q128.proofs.Ring.{neg_ℤ-*ℤ}
-use Rattle.q128.proofs.Field.{same_refl, same_sym, same_trans, plus-same, times-same, times_plus, plus_times, times_assoc, plus_assoc, plus-zero, zero-times, nonneg-same, nonneg-times, nonneg-raised}
-use Rattle.q128.proofs.Ordered.{minus_is, negative-same}
+use Rattle.q128.specs.Fraction.{Fraction, whole, IsSame, IsAtMost, plus, times}
+use Rattle.q128.proofs.Field.{same_refl, same_sym, same_trans, plus-same, times-same, times_plus, plus_times, times_assoc, plus_assoc, nonneg-same, nonneg-times, nonneg-raised}
 use Rattle.lin_rows.specs.Linear.{Linear, coefficient_of}
 use Rattle.lin_rows.specs.Points.{dot, value_at, RowsHoldAt}
-use Rattle.lin_rows.specs.Proving.{Multipliers, sum_coefficient, sum_constant, NotNegative, IsSum}
+use Rattle.lin_rows.specs.Proving.{Multipliers, sum_coefficient, sum_constant, IsSum}
 use Rattle.lin_rows.specs.Rows.{longest_of}
-use Rattle.lin_rows.specs.Transitions.{lin_times, lin_constant, lin_plus, drop_of, next_at}
+use Rattle.lin_rows.specs.Transitions.{lin_times, lin_constant, lin_plus}
 use Rattle.lin_rows.proofs.Dots.{dot-same, dot-times}
 use Rattle.lin_rows.proofs.Expressions.{value_at-plus, value_at-times, value_at-constant}
 use Rattle.lin_rows.proofs.LongestRows.{longest_room}
 use Rattle.lin_rows.proofs.Sound.{sum_not_negative}
-use Rattle.lin_rows.proofs.StepValues.{step_at}
 use Rattle.lin_rows.proofs.Totals.{sum_is}
 use Rattle.small_sums.specs.Sums.{IsFactor}
 use Rattle.small_cert.specs.Small.{IsMultiple, IsReachedBy}

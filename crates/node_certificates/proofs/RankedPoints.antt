@@ -1,15 +1,14 @@
 -- A small ranking is a ranking.
-use Rattle.std.specs.Prelude.{◌≡◌, ◌⊎◌, ℕ, zero, suc, ◌<◌, ◌≤◌, ◌*◌, ℤ, pos, negsuc, ◌*ℤ◌, ◌≤ℤ◌, ◌<ℤ◌, List, [], ◌∷◌, replicate, length, Contains, All, Option, Some, None, Result, Ok, Err, IfOk, MatchOption}
+use Rattle.std.specs.Prelude.{◌≡◌, ◌⊎◌, ℕ, zero, suc, ◌<◌, ◌≤◌, ◌*◌, ℤ, pos, negsuc, ◌*ℤ◌, ◌≤ℤ◌, ◌<ℤ◌, List, [], ◌∷◌, replicate, length, All, Option, Some, None, Result, Ok, Err, IfOk, MatchOption}
 use Rattle.std.specs.declared.alloc.AllocError.{AllocError}
 use Rattle.std.proofs.Common.{arith, refl, sym, ap, ◌∙◌, subst, inl, inr, get_or}
 use Rattle.std.proofs.lemmas.Int.{ints}
 use Rattle.q128.specs.Fraction.{Fraction, whole, IsSame, times}
 use Rattle.lin_rows.specs.declared.point.Point.{Point}
 use Rattle.lin_rows.specs.declared.row.Transition.{Transition}
-use Rattle.lin_rows.specs.Linear.{Linear, coefficient_of}
+use Rattle.lin_rows.specs.Linear.{Linear}
 use Rattle.lin_rows.specs.Rows.{lins}
 use Rattle.lin_rows.specs.Transitions.{lin_times}
-use Rattle.small_cert.specs.Small.{falsehood}
 use Rattle.small_cert.proofs.Proved.{scaled_at}
 use Rattle.small_levels.specs.Leveled as small
 use Rattle.small_levels.specs.Measured.{times_in}

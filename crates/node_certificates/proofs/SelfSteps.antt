@@ -1,15 +1,13 @@
 -- The steps of items one after another are those of their self calls.
-use Rattle.std.proofs.Common.{◌≡◌, ℕ, suc, ◌+◌, ◌<◌, nat_eq, Bool, true, false, List, [], ◌∷◌, ◌++◌, map, filter, length, drop, get_or, if◌then◌else◌, refl, sym, ap, ◌∙◌, append_assoc}
+use Rattle.std.proofs.Common.{◌≡◌, ℕ, suc, nat_eq, Bool, true, false, List, [], ◌∷◌, ◌++◌, map, filter, if◌then◌else◌, refl, sym, ap, ◌∙◌}
 use Rattle.std.specs.Prelude.{Result, Ok, Err, IfOk}
 use Rattle.std.specs.declared.alloc.AllocError.{AllocError}
-use Rattle.std.specs.List.{flat_map}
 use Rattle.std.proofs.lemmas.List.{map-append}
-use Rattle.lin_rows.specs.Linear.{Linear}
 use Rattle.lin_rows.specs.declared.row.Row.{Row}
 use Rattle.lin_rows.specs.declared.row.Transition.{Transition}
 use Rattle.rule_terms.specs.declared.item.Item.{Item}
 use Rattle.rule_terms.specs.declared.item.Item.TheVariants.{Assume, Spend, Fresh, Call}
-use Rattle.rankings.specs.SelfCalls.{Site, rows_of, sites_from, rules_sites, self_sites, step_of, self_steps}
+use Rattle.rankings.specs.SelfCalls.{Site, rows_of, sites_from, rules_sites, step_of, self_steps}
 use Rattle.node_certificates.specs.inside.Steps.{call_step, steps_from, all_steps}
 
 rows_more : (items : List Item) (item : Item) → rows_of (items ++ item ∷ []) ≡ rows_of items ++ rows_of (item ∷ [])

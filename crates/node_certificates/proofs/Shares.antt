@@ -1,13 +1,13 @@
 -- Sums of rows by multipliers that are shared by a multiple.
-use Rattle.std.specs.Prelude.{◌≡◌, ℕ, zero, suc, ◌+◌, ◌*◌, ◌<◌, ◌≤◌, ℤ, pos, ◌*ℤ◌, ◌≤ℤ◌, List, [], ◌∷◌, All, length}
-use Rattle.std.proofs.Common.{arith, refl, sym, subst, ◌∙◌, inl, inr}
+use Rattle.std.specs.Prelude.{◌≡◌, ℕ, zero, suc, ◌+◌, ◌*◌, ℤ, pos, ◌*ℤ◌, ◌≤ℤ◌, List, [], ◌∷◌, All}
+use Rattle.std.proofs.Common.{arith, sym, subst, ◌∙◌, inl, inr}
 use Rattle.std.proofs.lemmas.Int.{ints}
 use Rattle.std.proofs.Math.IntN.{*ℤ_comm}
 use Rattle.q128.specs.Fraction.{Fraction, whole, den_of, IsSame, IsAtMost, IsQuotient, plus, times}
 use Rattle.q128.proofs.Ring.{*ℤ_assoc}
 use Rattle.q128.proofs.Field.{same_refl, same_sym, same_trans, plus-same, times-same, times_plus, times_assoc, times_comm, times-zero, nonneg-same}
 use Rattle.lin_rows.specs.Linear.{Linear, coefficient_of, row_at}
-use Rattle.lin_rows.specs.Proving.{Multipliers, sum_coefficient, sum_constant, NotNegative, AreRowNumbers}
+use Rattle.lin_rows.specs.Proving.{Multipliers, sum_coefficient, sum_constant}
 use Rattle.small_sums.specs.Sums.{IsFactor}
 use Rattle.small_cert.specs.Small.{IsMultiple, AreShared}
 use Rattle.node_certificates.proofs.Levels.{factor_positive, cancelled}

@@ -14,15 +14,17 @@ pub struct NullMethod<'b, 'c> {
     pub kinds: &'b Kinds,
     pub targets: Sequence<Sequence<u32>>,
     ghost counted: { length kinds.now ≡ length body.now.code.bytes },
+    ghost each: { length targets ≡ length body.now.instructions },
     ghost some: { 1 ≤ length body.now.code.bytes },
     ghost short: { length body.now.code.bytes ≤ 65535 },
     ghost within: { AreWithin (length body.now.code.bytes) body.now.instructions },
 }
 
 impl<'b, 'c> NullMethod<'b, 'c> {
-    /// The method of this body.
+    /// The method of this body, with targets for each of its instructions.
     pub fn new(body: &'b Body<'c>, kinds: &'b Kinds, targets: Sequence<Sequence<u32>>) -> Self
-        requires { length kinds.now ≡ length body.now.code.bytes }
+        requires kinds { length kinds.now ≡ length body.now.code.bytes }
+        requires targets { length targets ≡ length body.now.instructions }
         ensures body { result.body.now ≡ body.now }
         ensures kinds { result.kinds.now ≡ kinds.now }
         ensures targets { result.targets ≡ targets }

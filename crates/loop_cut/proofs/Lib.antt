@@ -1,10 +1,10 @@
-mod Lists
-mod Standing
-mod Ways
+pub mod Lists
+pub mod Standing
+pub mod Ways
 mod Exits
 mod Changes
 mod Arriving
 mod Joining
 mod Whole
-mod Walking
-mod Reaching
+pub mod Walking
+pub mod Reaching

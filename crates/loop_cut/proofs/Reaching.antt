@@ -30,14 +30,14 @@ cases_of : (b : Bool) → (b ≡ true) ⊎ (b ≡ false)
 cases_of true = inl refl
 cases_of false = inr refl
 
-there : (is : List Instruction) (k : ℕ) → k < length is → (i : Instruction) × (slice_get is k ≡ Some i)
+pub there : (is : List Instruction) (k : ℕ) → k < length is → (i : Instruction) × (slice_get is k ≡ Some i)
 there is k lt = elim (slice_get_cases is k).1 [ inl h ↦ (h.0, h.2) | inr h ↦ let le = h.0 in absurd (omega arith) ]
 
-same_at : (is : List Instruction) (k : ℕ) (i j : Instruction) → slice_get is k ≡ Some i → slice_get is k ≡ Some j → i ≡ j
+pub same_at : (is : List Instruction) (k : ℕ) (i j : Instruction) → slice_get is k ≡ Some i → slice_get is k ≡ Some j → i ≡ j
 same_at is k i j e f = let g : Some i ≡ Some j = sym e ∙ f in cc
 
 -- inside a block an instruction leads to the next one alone
-inner : (is : List Instruction) (b : Block) (k : ℕ) (i j : Instruction) → IsLaidOut is → IsBlock is b → b.first ≤ k → k < b.last → slice_get is k ≡ Some i → slice_get is (k + 1) ≡ Some j
+pub inner : (is : List Instruction) (b : Block) (k : ℕ) (i j : Instruction) → IsLaidOut is → IsBlock is b → b.first ≤ k → k < b.last → slice_get is k ≡ Some i → slice_get is (k + 1) ≡ Some j
     → i.successors ≡ j.pc ∷ []
 inner is b k i j laid h low high at more =
     let next : j.pc ≡ next_pc i = laid.follows k i j at more in
@@ -52,33 +52,33 @@ laid_of law body is_body = subst (λ (is : List Instruction). IsLaidOut is) (sym
 
 module _ (body : MethodBody) (is_body : IsBody body) (laid : IsLaidOut body.instructions) where
   -- the instruction at the place stands in the block
-  record Stands (x : ℕ) (b : Block) : Type 0 where
-    k : ℕ
-    i : Instruction
-    at : slice_get body.instructions k ≡ Some i
-    place : i.pc ≡ x
-    known : Contains body.blocks b
-    inside : IsInside b k
+  pub record Stands (x : ℕ) (b : Block) : Type 0 where
+    pub k : ℕ
+    pub i : Instruction
+    pub at : slice_get body.instructions k ≡ Some i
+    pub place : i.pc ≡ x
+    pub known : Contains body.blocks b
+    pub inside : IsInside b k
 
-  first_stands : (b : Block) → Contains body.blocks b → Stands b.pc b
+  pub first_stands : (b : Block) → Contains body.blocks b → Stands b.pc b
   first_stands b known =
       let h = block_is body is_body laid b known in
       record { k = b.first; i = h.first; at = h.at_first; place = h.place; known = known; inside = (omega arith, h.ordered) }
 
-  same_number : (k l : ℕ) (i j : Instruction) → slice_get body.instructions k ≡ Some i → slice_get body.instructions l ≡ Some j → i.pc ≡ j.pc → k ≡ l
+  pub same_number : (k l : ℕ) (i j : Instruction) → slice_get body.instructions k ≡ Some i → slice_get body.instructions l ≡ Some j → i.pc ≡ j.pc → k ≡ l
   same_number k l i j at_k at_l same = elim (cases_order k l) [
     | inl e ↦ e
     | inr (inl lt) ↦ let rise : i.pc < j.pc = later_at body.instructions k l i j laid lt at_k at_l in absurd (omega arith)
     | inr (inr lt) ↦ let rise : j.pc < i.pc = later_at body.instructions l k j i laid lt at_l at_k in absurd (omega arith)
   ]
 
-  same_block : (x : ℕ) (b c : Block) → Stands x b → Stands x c → b ≡ c
+  pub same_block : (x : ℕ) (b c : Block) → Stands x b → Stands x c → b ≡ c
   same_block x b c s t =
       let numbers : s.k ≡ t.k = same_number s.k t.k s.i t.i s.at t.at (s.place ∙ sym t.place) in
       blocks_are_apart body.instructions b c t.k (block_is body is_body laid b s.known) (block_is body is_body laid c t.known)
       (subst (λ (n : ℕ). IsInside b n) numbers s.inside) t.inside
 
-  start_place : (b : Block) → Stands 0 b → 0 ≡ b.pc
+  pub start_place : (b : Block) → Stands 0 b → 0 ≡ b.pc
   start_place b s =
       let h = block_is body is_body laid b s.known in
       let low : b.first ≤ s.k = s.inside.0 in

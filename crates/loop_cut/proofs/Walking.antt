@@ -24,7 +24,7 @@ module _ (g : List (List ℕ)) (root : ℕ) (one : HasOneEntries g root) where
   enters h x y reached edge out (inr l) = absurd (one h y (record { inside = l; source = x; reached = reached; edge = edge; outside = out }))
 
   -- two loops with nodes of each other
-  loops_same : (h k : ℕ) → HasLoop g root h → HasLoop g root k → IsInLoop g root h k → IsInLoop g root k h → h ≡ k
+  pub loops_same : (h k : ℕ) → HasLoop g root h → HasLoop g root k → IsInLoop g root h k → IsInLoop g root k h → h ≡ k
   loops_same h k begins_h begins_k in_h in_k =
       on_both g root h k (on_inside g root h k (on_loop g root h begins_h) in_h) (on_inside g root k h (on_loop g root k begins_k) in_k)
 

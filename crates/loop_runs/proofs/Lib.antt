@@ -1,2 +1,2 @@
 mod Stores
-mod Keeping
+pub mod Keeping

@@ -1,0 +1,10 @@
+pub mod Around
+pub mod Passing
+pub mod Blocks
+pub mod Outcomes
+pub mod Frames
+pub mod Looped
+pub mod Knowing
+pub mod Moments
+pub mod Staying
+pub mod Stacks

@@ -1,0 +1,5 @@
+pub mod Homes
+pub mod Knowing
+pub mod Moments
+pub mod Staying
+pub mod inside

@@ -1,0 +1,3 @@
+-- what only this crate's own proofs say
+pub mod Around
+pub mod Lowest
